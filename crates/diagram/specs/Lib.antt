@@ -1,0 +1,13 @@
+pub mod Rules
+pub mod Letters
+pub mod Words
+pub mod Edges
+pub mod Dialects
+pub mod Making
+pub mod Acceptance
+pub mod Walks
+pub mod Records
+pub mod Builtin
+pub mod Refusals
+pub mod Theorems
+pub mod Keys
