@@ -25,3 +25,5 @@ pub mod Recorded
 pub mod Placed
 pub mod Spelt
 pub mod Made
+pub mod Recording
+pub mod Halving

@@ -10,4 +10,5 @@ pub mod Records
 pub mod Builtin
 pub mod Refusals
 pub mod Theorems
+pub mod RecordTheorems
 pub mod Keys

@@ -19,7 +19,7 @@ flat D n b = cond (D .negates) (edge b (replicate n U) (terminal false)) (edge f
 -- Making --
 
 -- the half that a letter is set on
-abbrev pub source : Letter → Edge → Edge → Edge
+abbrev pub source : {A : Type 0} → Letter → A → A → A
 source U l h = l
 source X l h = l
 source C00 l h = h

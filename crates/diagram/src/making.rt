@@ -1,10 +1,23 @@
 // What making an edge from two halves is made of: a letter set on an edge, and a diamond looked up.
 ghost use mathlib.Core.Path.{_≡_};
+ghost use Rattle.diagram.specs.Making.{source};
 ghost use Rattle.diagram.specs.Records.{same-diamond-record, number-of, with-letter};
 use crate::edges::Diamond;
 use crate::edges::Edge;
 use crate::letters::Letter;
 use crate::words::push;
+
+impl Letter {
+    // The half that the letter is set on.
+    pub fn source(self, low: Edge, high: Edge) -> Edge
+        ensures { λ r. ⌜ r ≡ source self low high ⌝ }
+    {
+        match self {
+            Letter::C00 | Letter::C01 => high,
+            _ => low,
+        }
+    }
+}
 
 impl Edge {
     // The edge with a letter set on it: under a mark the letter's partner is written.

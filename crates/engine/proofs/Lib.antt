@@ -1,0 +1,4 @@
+pub mod Joining
+pub mod Choosing
+pub mod Marks
+pub mod Halved

@@ -1,0 +1,99 @@
+// The calls on an engine.
+ghost use mathlib.Core.Path.{_≡_};
+ghost use mathlib.Core.List.{[]};
+ghost use Rattle.std.specs.Of.Vec.{vec-items};
+ghost use Rattle.std.specs.Vec.{made};
+ghost use Rattle.std.specs.declared.option.Option.the-variants.{None};
+ghost use Rattle.cache.specs.declared.entries.Key.{Key};
+ghost use Rattle.engine.specs.Steps.{constant-step, variable-step, evaluate-step, map-after};
+use crate::engines::Engine;
+use crate::growing::ROOM;
+use crate::states::State;
+use cache::caches::Cache;
+use cache::tables::Table;
+use diagram::accepting::arity;
+use diagram::edges::Diamond;
+use diagram::edges::Edge;
+use diagram::profiles::Profile;
+use diagram::refusals::Refusal;
+use std::alloc::AllocError;
+use std::alloc::Global;
+
+impl<C: Cache + Drop> Engine<C> {
+    // A new engine of a dialect: no diamonds, and nothing in its cache. Only this call can want memory.
+    pub fn new(heap: Global, profile: Profile, cache: C) -> Result<Engine<C>, AllocError>
+        ensures { λ r. ⌜ made r (λ e. (vec-items (e .state .diamonds) ≡ []) × (e .state .profile ≡ profile) × ((k : Key) → C·Cache .held (e .cache) (e .state .table) k ≡ None)) ⌝ }
+    {
+        let mut cache = cache;
+        let diamonds = Vec::with_capacity(heap, ROOM)?;
+        let mut table = Table::new(heap, cache.places())?;
+        cache.forget(&mut table);
+        let state = State {
+            profile,
+            diamonds,
+            table,
+        };
+        Ok(Engine { state, cache })
+    }
+
+    // The dialect of the engine.
+    pub fn profile(&self) -> Profile
+        ensures { λ r. ⌜ r ≡ now (self .entry) .state .profile ⌝ }
+    {
+        self.state.profile
+    }
+
+    // The diamonds that the engine holds, diamond k at place k.
+    pub fn diamonds(&self) -> &[Diamond]
+        ensures { λ r. ⌜ now r ≡ vec-items (now (self .entry) .state .diamonds) ⌝ }
+    {
+        self.state.diamonds.as_slice()
+    }
+
+    // The constant of `arity` marks with this value.
+    pub fn constant(&self, arity: u32, value: bool) -> Result<Edge, Refusal>
+        ensures answer { λ r. ⌜ r ≡ constant-step (now (self .entry) .state .profile .meaning) (vec-items (now (self .entry) .state .diamonds)) arity value .0 ⌝ }
+        ensures diamonds { λ _. ⌜ vec-items (now (self .entry) .state .diamonds) ≡ constant-step (now (self .entry) .state .profile .meaning) (vec-items (now (self .entry) .state .diamonds)) arity value .1 ⌝ }
+    {
+        if arity > 20 {
+            return Err(Refusal::ArityOver);
+        }
+        Ok(self.state.profile.meaning().constant(arity as u8, value))
+    }
+
+    // Mark i of `arity` marks.
+    pub fn variable(&mut self, arity: u32, i: u32) -> Result<Edge, Refusal>
+        ensures answer { λ r. ⌜ r ≡ variable-step (now (self .entry) .state .profile .meaning) (vec-items (now (self .entry) .state .diamonds)) arity i .0 ⌝ }
+        ensures diamonds { λ _. ⌜ vec-items (now (self .exit) .state .diamonds) ≡ variable-step (now (self .entry) .state .profile .meaning) (vec-items (now (self .entry) .state .diamonds)) arity i .1 ⌝ }
+        ensures profile { λ _. ⌜ now (self .exit) .state .profile ≡ now (self .entry) .state .profile ⌝ }
+        ensures map { λ r. ⌜ ((k : Key) → C·Cache .held (now (self .exit) .cache) (now (self .exit) .state .table) k ≡ map-after r (C·Cache .held (now (self .entry) .cache) (now (self .entry) .state .table) k)) ⌝ }
+    {
+        if arity > 20 {
+            return Err(Refusal::ArityOver);
+        }
+        if i >= arity {
+            return Err(Refusal::NoVariable);
+        }
+        match self.state.insert_variable(arity as u8, i as u8) {
+            Ok(edge) => Ok(edge),
+            Err(refusal) => {
+                self.cache.forget(&mut self.state.table);
+                Err(refusal)
+            }
+        }
+    }
+
+    // The value of an edge at an assignment.
+    pub fn evaluate(&self, edge: Edge, assignment: u32) -> Result<bool, Refusal>
+        ensures { λ r. ⌜ r ≡ evaluate-step (now (self .entry) .state .profile .meaning) (vec-items (now (self .entry) .state .diamonds)) edge assignment ⌝ }
+    {
+        if !self.state.profile.meaning().accepts(self.state.diamonds.as_slice(), edge) {
+            return Err(Refusal::NotAccepted);
+        }
+        let marks = arity(self.state.diamonds.as_slice(), edge);
+        if assignment >= 2u32.pow(marks) {
+            return Err(Refusal::AssignmentOver);
+        }
+        Ok(self.state.value(edge, marks as u8, assignment))
+    }
+}
