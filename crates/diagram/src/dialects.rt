@@ -15,7 +15,7 @@ pub trait Dialect {
 
     ghost meaning: { Meaning };
 
-    law keeps: { lawful meaning ≡ true };
+    law sound: { lawful meaning ≡ true };
 
     // `CODE`, for code that is written for every dialect: a constant that is read there carries no fact.
     fn coded() -> u8

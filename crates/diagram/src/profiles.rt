@@ -14,7 +14,7 @@ use crate::meanings::Meaning;
 #[derive(Clone, Copy)]
 pub struct Profile {
     meaning: Meaning,
-    ghost keeps: { lawful meaning ≡ true },
+    ghost sound: { lawful meaning ≡ true },
 }
 
 impl Profile {

@@ -134,7 +134,6 @@ pub picked-there : (b : Bool) (l h : EdgeRecord) (x y : Edge) → edge-of l ≡ 
 picked-there true l h x y p q = q
 picked-there false l h x y p q = p
 
-
 pub half-flip : (D : Meaning) (s : Store) (e : EdgeRecord) (r : EdgeRecord) (high : Bool) →
     edge-of r ≡ cond high (high-upright D s (edge-of e .word) (edge-of e .target)) (low-upright D s (edge-of e .word) (edge-of e .target)) →
     (e .negated ≡ true → edge-of (other-mark r) ≡ half-at high D s (edge-of e)) × (e .negated ≡ false → edge-of r ≡ half-at high D s (edge-of e))

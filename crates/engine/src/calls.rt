@@ -87,7 +87,10 @@ impl<C: Cache + Drop> Engine<C> {
     pub fn evaluate(&self, edge: Edge, assignment: u32) -> Result<bool, Refusal>
         ensures { λ r. ⌜ r ≡ evaluate-step (now (self .entry) .state .profile .meaning) (vec-items (now (self .entry) .state .diamonds)) edge assignment ⌝ }
     {
-        if !self.state.profile.meaning().accepts(self.state.diamonds.as_slice(), edge) {
+        if !self.state
+            .profile
+            .meaning()
+            .accepts(self.state.diamonds.as_slice(), edge) {
             return Err(Refusal::NotAccepted);
         }
         let marks = arity(self.state.diamonds.as_slice(), edge);

@@ -3,4 +3,4 @@ use Rattle.diagram.proofs.Tests.{tested}
 use Rattle.diagram.proofs.profiles.Profile.law.Needs as need
 
 pub returns : need.returns
-returns c = tested (c .args .self .now .meaning) .0 (c .args .self .now .keeps)
+returns c = tested (c .args .self .now .meaning) .0 (c .args .self .now .sound)

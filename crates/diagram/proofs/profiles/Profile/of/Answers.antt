@@ -10,4 +10,4 @@ pub ghost-result : need.ghost-result
 ghost-result g c =
     let asked : Meaning = record { code = c .coded .result; negates = c .negating .result; letters = c .letters-of .result; answers = c .answers-of .result } in
     let e : asked ≡ g .D·Dialect .meaning = search needs in
-    (subst (λ (m : Meaning). lawful m ≡ true) (sym e) (g .D·Dialect·met .keeps), tt)
+    (subst (λ (m : Meaning). lawful m ≡ true) (sym e) (g .D·Dialect·met .sound), tt)

@@ -18,6 +18,6 @@ returns g c =
     let D = s .profile .meaning in
     let ds = vec-items (s .diamonds) in
     let l : length ds ≤ 1024 = omega (arith, s .few, s .diamonds .ok .0) in
-    let p = constant-answer D (tested D .0 (s .profile .keeps)) ds (s .proper) (s .spelled) l (c .args .arity) (c .args .value) (omega arith) in
+    let p = constant-answer D (tested D .0 (s .profile .sound)) ds (s .proper) (s .spelled) l (c .args .arity) (c .args .value) (omega arith) in
     let q : c .constant .result ≡ constant-record D (c .args .arity) (c .args .value) = c .constant .ensures ∙ ap (λ (m : Meaning). constant-record m (c .args .arity) (c .args .value)) (c .meaning .ensures .value) in
     record { answer = ap Ok q ∙ sym (ap (λ (o : Outcome). o .0) p); diamonds = sym (ap (λ (o : Outcome). o .1) p) }

@@ -44,9 +44,9 @@ returns-then-i-eq0 t c =
     let a : inserted D ds (variable (c .args .n) (c .args .i)) ≡ inserted D ds (variable (c .args .n) 0) = ap (λ (k : ℕ). inserted D ds (variable (c .args .n) k)) (c .if-i-eq0 .taken) in
     record {
       outcome =
-        c .make .ensures .outcome
-        ∙ ap₂ (λ (x y : Edge). kept ds (make D (store-of ds) (edge-of x) (edge-of y))) l h
-        ∙ sym (a ∙ inserted-first D (tested D .0 (s .profile .keeps)) ds (s .proper) (c .args .n) (omega arith));
+          c .make .ensures .outcome
+          ∙ ap₂ (λ (x y : Edge). kept ds (make D (store-of ds) (edge-of x) (edge-of y))) l h
+          ∙ sym (a ∙ inserted-first D (tested D .0 (s .profile .sound)) ds (s .proper) (c .args .n) (omega arith));
       profile = c .make .ensures .profile;
       table = c .make .ensures .table;
     }
@@ -61,8 +61,8 @@ returns-in-Break-edge t c =
     let q : c .from-residual .result ≡ Err (c .in-Break-edge .field-0 .0) = p .1 ∙ ap Err (p .2) in
     record {
       outcome =
-        ap (λ (r : Result Edge Refusal). (r, xs)) q
-        ∙ sym (refused-later D (tested D .0 (s .profile .keeps)) ds (s .proper) (c .args .n) (c .args .i) (omega arith) (c .pre .below) (c .in-Break-edge .field-0 .0) xs (c .in-Break-edge .ensures tt .outcome));
+          ap (λ (r : Result Edge Refusal). (r, xs)) q
+          ∙ sym (refused-later D (tested D .0 (s .profile .sound)) ds (s .proper) (c .args .n) (c .args .i) (omega arith) (c .pre .below) (c .in-Break-edge .field-0 .0) xs (c .in-Break-edge .ensures tt .outcome));
       profile = c .in-Break-edge .ensures tt .profile;
       table = c .in-Break-edge .ensures tt .table;
     }
@@ -73,7 +73,7 @@ unwrap-requires t c κs =
     let D = s .profile .meaning in
     let ds = vec-items (s .diamonds) in
     ap isSome (c .with-letter .ensures
-    ∙ later-set D (tested D .0 (s .profile .keeps)) ds (s .proper) (c .args .n) (c .args .i) (omega arith) (c .pre .below) (c .in-Continue-edge .edge) (vec-items (c .insert-variable .last .self .diamonds)) (c .pre .short) (c .in-Continue-edge .ensures tt .outcome))
+    ∙ later-set D (tested D .0 (s .profile .sound)) ds (s .proper) (c .args .n) (c .args .i) (omega arith) (c .pre .below) (c .in-Continue-edge .edge) (vec-items (c .insert-variable .last .self .diamonds)) (c .pre .short) (c .in-Continue-edge .ensures tt .outcome))
 
 pub returns : need.returns
 returns t c =
@@ -81,15 +81,15 @@ returns t c =
     let D = s .profile .meaning in
     let ds = vec-items (s .diamonds) in
     let xs = vec-items (c .insert-variable .last .self .diamonds) in
-    let law = tested D .0 (s .profile .keeps) in
+    let law = tested D .0 (s .profile .sound) in
     let p : Some (c .unwrap .result) ≡ Some (edge-record (put U (edge-of (c .in-Continue-edge .edge)))) =
     sym (c .unwrap .ensures) ∙ c .with-letter .ensures
     ∙ later-set D law ds (s .proper) (c .args .n) (c .args .i) (omega arith) (c .pre .below) (c .in-Continue-edge .edge) xs (c .pre .short) (c .in-Continue-edge .ensures tt .outcome) in
     let q : c .unwrap .result ≡ edge-record (put U (edge-of (c .in-Continue-edge .edge))) = cc in
     record {
       outcome =
-        ap (λ (r : Edge). (Ok r, xs)) q
-        ∙ sym (inserted-later D law ds (s .proper) (c .args .n) (c .args .i) (omega arith) (c .pre .below) (c .in-Continue-edge .edge) xs (c .in-Continue-edge .ensures tt .outcome));
+          ap (λ (r : Edge). (Ok r, xs)) q
+          ∙ sym (inserted-later D law ds (s .proper) (c .args .n) (c .args .i) (omega arith) (c .pre .below) (c .in-Continue-edge .edge) xs (c .in-Continue-edge .ensures tt .outcome));
       profile = c .in-Continue-edge .ensures tt .profile;
       table = c .in-Continue-edge .ensures tt .table;
     }

@@ -27,4 +27,4 @@ returns t c =
     let s = c .args .self .now in
     let D = s .profile .meaning in
     c .value .ensures
-    ∙ half-value D (tested D .0 (s .profile .keeps)) (vec-items (s .diamonds)) (s .proper) (c .args .edge) (c .args .n) (c .pre) (omega arith) (c .half-half .result) (c .args .assignment) (c .half-half .ensures .half)
+    ∙ half-value D (tested D .0 (s .profile .sound)) (vec-items (s .diamonds)) (s .proper) (c .args .edge) (c .args .n) (c .pre) (omega arith) (c .half-half .result) (c .args .assignment) (c .half-half .ensures .half)

@@ -47,11 +47,19 @@ ghost-self c =
     let new = c .push-reserved .last .self in
     let is = c .push-reserved .ensures .items in
     let few : vec-len new ≤ 1024 = omega (arith, c .push-reserved .ensures .len, c .if-k-ge-ROOM .left, c .len-k .ensures) in
-    let room : 1024 ≤ vec-cap new = omega (arith, s .room, c .push-reserved .ensures .capacity) in
-    (few, (room,
-      (subst (λ (xs : List Diamond). spelled-diamonds xs ≡ true) (sym is) (joined-spelled (s .profile .meaning) ds (c .args .diamond) (s .spelled) (c .pre)),
-      (subst (λ (xs : List Diamond). normal (s .profile .meaning) (store-of xs) ≡ true) (sym is) (joined-normal (s .profile .meaning) ds (c .args .diamond) (s .spelled) (c .pre) (ap (λ (xs : List Diamond). number-of xs (c .args .diamond)) (sym (c .as-slice .ensures .value)) ∙ sym (c .in-rest .ensures tt)) (s .proper)),
-      (subst (λ (xs : List Diamond). shallow (store-of xs) ≡ true) (sym is) (joined-shallow (s .profile .meaning) ds (c .args .diamond) (s .spelled) (c .pre) (s .low)), tt)))))
+    let room : 1024 ≤ vec-cap new = omega (arith, s .room, c .push-reserved .ensures .capacity) in (
+      few,
+      (
+        room,
+        (
+          subst (λ (xs : List Diamond). spelled-diamonds xs ≡ true) (sym is) (joined-spelled (s .profile .meaning) ds (c .args .diamond) (s .spelled) (c .pre)),
+          (
+            subst (λ (xs : List Diamond). normal (s .profile .meaning) (store-of xs) ≡ true) (sym is) (joined-normal (s .profile .meaning) ds (c .args .diamond) (s .spelled) (c .pre) (ap (λ (xs : List Diamond). number-of xs (c .args .diamond)) (sym (c .as-slice .ensures .value)) ∙ sym (c .in-rest .ensures tt)) (s .proper)),
+            (subst (λ (xs : List Diamond). shallow (store-of xs) ≡ true) (sym is) (joined-shallow (s .profile .meaning) ds (c .args .diamond) (s .spelled) (c .pre) (s .low)), tt),
+          ),
+        ),
+      ),
+    )
 
 pub returns : need.returns
 returns c =
@@ -60,10 +68,10 @@ returns c =
     let l : length ds < 1024 = omega (arith, c .if-k-ge-ROOM .left, c .len-k .ensures, s .diamonds .ok .0) in
     record {
       outcome =
-        ap (λ (r : Edge). (Ok r, vec-items (c .push-reserved .last .self))) (c .edge-to-2 .ensures)
-        ∙ ap (λ (k : ℕ). (Ok (edge-record (diamond-edge k)), vec-items (c .push-reserved .last .self))) (c .len-k .ensures ∙ s .diamonds .ok .0)
-        ∙ ap (λ (xs : List Diamond). (Ok (edge-record (diamond-edge (length ds))), xs)) (c .push-reserved .ensures .items)
-        ∙ sym (add-new (s .profile .meaning) ds (c .args .diamond) (s .spelled) (c .pre) l (ap (λ (xs : List Diamond). number-of xs (c .args .diamond)) (sym (c .as-slice .ensures .value)) ∙ sym (c .in-rest .ensures tt)));
+          ap (λ (r : Edge). (Ok r, vec-items (c .push-reserved .last .self))) (c .edge-to-2 .ensures)
+          ∙ ap (λ (k : ℕ). (Ok (edge-record (diamond-edge k)), vec-items (c .push-reserved .last .self))) (c .len-k .ensures ∙ s .diamonds .ok .0)
+          ∙ ap (λ (xs : List Diamond). (Ok (edge-record (diamond-edge (length ds))), xs)) (c .push-reserved .ensures .items)
+          ∙ sym (add-new (s .profile .meaning) ds (c .args .diamond) (s .spelled) (c .pre) l (ap (λ (xs : List Diamond). number-of xs (c .args .diamond)) (sym (c .as-slice .ensures .value)) ∙ sym (c .in-rest .ensures tt)));
       profile = refl;
       table = refl;
     }

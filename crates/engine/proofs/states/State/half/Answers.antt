@@ -23,7 +23,7 @@ returns-then-edge c =
     let q : spelled-edge (c .pick-half .result) ≡ true = ap spelled-edge (c .pick-half .ensures) ∙ picked-spelled (c .args .high) (hs .0) (hs .1) (u .spelled .0) (u .spelled .1) in
     let r : edge-of (c .flip .result) ≡ half-at (c .args .high) D (store-of ds) (edge-of e) =
     ap edge-of (c .flip .ensures) ∙ half-flip D (store-of ds) e (c .pick-half .result) (c .args .high) p .0 (c .if-edge .taken) in
-    record { edge = half-fit D (tested D .0 (s .profile .keeps)) ds (s .proper) e (c .args .n) (c .pre .edge) (c .pre .some) (c .flip .result) (c .args .high) (ap spelled-edge (c .flip .ensures) ∙ q) r; half = r }
+    record { edge = half-fit D (tested D .0 (s .profile .sound)) ds (s .proper) e (c .args .n) (c .pre .edge) (c .pre .some) (c .flip .result) (c .args .high) (ap spelled-edge (c .flip .ensures) ∙ q) r; half = r }
 
 pub returns-else-edge : need.returns-else-edge
 returns-else-edge c =
@@ -37,4 +37,4 @@ returns-else-edge c =
     ap edge-of (c .pick-half .ensures) ∙ picked-there (c .args .high) (hs .0) (hs .1) _ _ (u .low) (u .high) in
     let q : spelled-edge (c .pick-half .result) ≡ true = ap spelled-edge (c .pick-half .ensures) ∙ picked-spelled (c .args .high) (hs .0) (hs .1) (u .spelled .0) (u .spelled .1) in
     let r : edge-of (c .pick-half .result) ≡ half-at (c .args .high) D (store-of ds) (edge-of e) = half-flip D (store-of ds) e (c .pick-half .result) (c .args .high) p .1 (c .if-edge .left) in
-    record { edge = half-fit D (tested D .0 (s .profile .keeps)) ds (s .proper) e (c .args .n) (c .pre .edge) (c .pre .some) (c .pick-half .result) (c .args .high) q r; half = r }
+    record { edge = half-fit D (tested D .0 (s .profile .sound)) ds (s .proper) e (c .args .n) (c .pre .edge) (c .pre .some) (c .pick-half .result) (c .args .high) q r; half = r }

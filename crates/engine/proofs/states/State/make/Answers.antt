@@ -56,7 +56,7 @@ add-requires c κs =
     let D = s .profile .meaning in
     let e : letter-for D (c .args .low) (c .args .high) ≡ None =
     ap (λ (m : Meaning). letter-for m (c .args .low) (c .args .high)) (sym (c .meaning .ensures .value)) ∙ sym (c .in-rest .ensures tt) in
-    let j = joins-flipped D (vec-items (s .diamonds)) (c .args .low) (c .args .high) (c .pre) (tested D .0 (s .profile .keeps)) e (c .if-low .taken) in
+    let j = joins-flipped D (vec-items (s .diamonds)) (c .args .low) (c .args .high) (c .pre) (tested D .0 (s .profile .sound)) e (c .if-low .taken) in
     let p : _≡_ {A = Diamond} (record { low = other-mark (c .args .low); high = other-mark (c .args .high) }) (record { low = c .flip .result; high = c .flip-then-low .result }) =
     λ i. record { low = sym (c .flip .ensures) i; high = sym (c .flip-then-low .ensures) i } in
     subst (λ (d : Diamond). Joins D (vec-items (s .diamonds)) d) p j
@@ -73,8 +73,8 @@ returns-in-Break-edge c =
     let q : c .from-residual .result ≡ Err (c .in-Break-edge .field-0 .0) = p .1 ∙ ap Err (p .2) in
     record {
       outcome =
-        ap (λ (r : Result Edge Refusal). (r, vec-items (c .add .last .self .diamonds))) q
-        ∙ sym (made-flipped D ds (c .args .low) (c .args .high) (c .pre) e (c .if-low .taken) ∙ kept-flipped ds (add (store-of ds) (flip (edge-of (c .args .low))) (flip (edge-of (c .args .high)))) (Err (c .in-Break-edge .field-0 .0)) (vec-items (c .add .last .self .diamonds)) o);
+          ap (λ (r : Result Edge Refusal). (r, vec-items (c .add .last .self .diamonds))) q
+          ∙ sym (made-flipped D ds (c .args .low) (c .args .high) (c .pre) e (c .if-low .taken) ∙ kept-flipped ds (add (store-of ds) (flip (edge-of (c .args .low))) (flip (edge-of (c .args .high)))) (Err (c .in-Break-edge .field-0 .0)) (vec-items (c .add .last .self .diamonds)) o);
       profile = c .in-Break-edge .ensures tt .profile;
       table = c .in-Break-edge .ensures tt .table;
     }
@@ -89,8 +89,8 @@ returns-then-low c =
     let o = c .in-Continue-edge .ensures tt .outcome ∙ ap₂ (λ (l h : Edge). kept ds (add (store-of ds) (edge-of l) (edge-of h))) (c .flip .ensures) (c .flip-then-low .ensures) in
     record {
       outcome =
-        ap (λ (r : Edge). (Ok r, vec-items (c .add .last .self .diamonds))) (c .flip-then-low-2 .ensures)
-        ∙ sym (made-flipped D ds (c .args .low) (c .args .high) (c .pre) e (c .if-low .taken) ∙ kept-flipped ds (add (store-of ds) (flip (edge-of (c .args .low))) (flip (edge-of (c .args .high)))) (Ok (c .in-Continue-edge .edge)) (vec-items (c .add .last .self .diamonds)) o);
+          ap (λ (r : Edge). (Ok r, vec-items (c .add .last .self .diamonds))) (c .flip-then-low-2 .ensures)
+          ∙ sym (made-flipped D ds (c .args .low) (c .args .high) (c .pre) e (c .if-low .taken) ∙ kept-flipped ds (add (store-of ds) (flip (edge-of (c .args .low))) (flip (edge-of (c .args .high)))) (Ok (c .in-Continue-edge .edge)) (vec-items (c .add .last .self .diamonds)) o);
       profile = c .in-Continue-edge .ensures tt .profile;
       table = c .in-Continue-edge .ensures tt .table;
     }
