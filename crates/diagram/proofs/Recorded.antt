@@ -5,7 +5,7 @@ use mathlib.Core.List.{List, [], _∷_, _++_, map, reverse, reverse-cons}
 use Prim.Native.Nat.{ℕ, zero, suc, _+_, _*_, _/_, _%_, _^_, _<_, _≤_}
 use native.Mathlib.Omega.{arith}
 use native.Mathlib.Nat.{zero-div, zero-mod}
-use lib.Dec.{eqb, leb}
+use lib.Dec.{eqb, leb, ltb}
 use lib.ListN.{length, replicate, length-reverse, length-map, length-replicate}
 use Rattle.std.proofs.shelf.Lists.{map-append, reverse-append, reverse-reverse}
 use Rattle.std.proofs.shelf.Tests.{eqb-true, eq-eqb, leb-true, le-leb, and-parts, and-from}
@@ -24,8 +24,8 @@ use Rattle.diagram.specs.Edges.{Target, terminal, diamond, Edge, edge, Diamond
 use Rattle.diagram.specs.declared.letters.Kind.{Kind}
 use Rattle.diagram.specs.Dialects.{all-u, kind-at, kind, look-at, look, answer-at, same-answer}
 use Rattle.diagram.specs.Making.{flat, source, written, choose, low-of, high-of, upright}
-use Rattle.diagram.specs.Acceptance.{gives}
-use Rattle.diagram.specs.Records.{target-of, edge-of, diamond-of, store-of, target-record, edge-record, diamond-record, diamonds-of, spelled-edge, spelled-diamonds, same-target-record, same-record, other-mark, kind-to, kind-of, letter-for, constant-record, halves-on, letter-chosen}
+use Rattle.diagram.specs.Acceptance.{inside, gives}
+use Rattle.diagram.specs.Records.{target-of, edge-of, diamond-of, store-of, target-record, edge-record, diamond-record, diamonds-of, stands-in, spelled-edge, spelled-diamonds, same-target-record, same-record, other-mark, kind-to, kind-of, letter-for, constant-record, halves-on, letter-chosen}
 use Rattle.diagram.proofs.Laws.{letter-eq, beq-refl, beq-eq, same-refl, same-eq}
 use Rattle.diagram.proofs.Spelling.{words-read, words-written}
 
@@ -125,6 +125,11 @@ spelled-push (x ∷ xs) d h l r =
     and-from (spelled-edge (x .low)) (spelled-edge (x .high) && spelled-diamonds (xs ++ (d ∷ []))) (p .0)
     (and-from (spelled-edge (x .high)) (spelled-diamonds (xs ++ (d ∷ []))) (q .0) (spelled-push xs d (q .1) l r))
 
+pub stands-there : (ds : List DiamondRecord) (t : TargetRecord) → stands-in ds t ≡ inside (store-of ds) (target-of t)
+stands-there ds Zero = refl
+stands-there ds One = refl
+stands-there ds (DiamondNumber k) = ap (λ (n : ℕ). ltb k n) (sym (store-length ds))
+
 -- Equal records --
 
 same-target-record-refl : (t : TargetRecord) → same-target-record t t ≡ true
@@ -223,20 +228,23 @@ numeral-us : (n : ℕ) → numeral (replicate n U) ≡ 0
 numeral-us zero = refl
 numeral-us (suc n) = let p = numeral-us n in omega arith
 
-pub constant-negating : (D : Meaning) (n : ℕ) (b : Bool) → D .negates ≡ true → constant-record D n b ≡ edge-made b n 0 Zero
-constant-negating D n b h =
-    let p = length-replicate n U in
-    let q = numeral-us n in
-    rw h (λ i. edge-made b (p i) (q i) Zero)
+constant-end : (n : ℕ) (b : Bool) → edge-record (edge false (replicate n U) (terminal b)) ≡ edge-made false n 0 (cond b One Zero)
+constant-end n true = let p = length-replicate n U in let q = numeral-us n in λ i. edge-made false (p i) (q i) One
+constant-end n false = let p = length-replicate n U in let q = numeral-us n in λ i. edge-made false (p i) (q i) Zero
 
-pub constant-plain : (D : Meaning) (n : ℕ) (b : Bool) → D .negates ≡ false → constant-record D n b ≡ edge-made false n 0 (target-record (terminal b))
-constant-plain D n b h =
-    let p = length-replicate n U in
-    let q = numeral-us n in
-    rw h (λ i. edge-made false (p i) (q i) (target-record (terminal b)))
+-- the constant edge is that of making
+pub constant-is : (D : Meaning) (n : ℕ) (b : Bool) → edge-record (flat D n b) ≡ constant-record D n b
+constant-is D n b = go (D .negates)
+  where
+    go : (c : Bool) → edge-record (cond c (edge b (replicate n U) (terminal false)) (edge false (replicate n U) (terminal b))) ≡ cond c (edge-made b n 0 Zero) (edge-made false n 0 (cond b One Zero))
+    go true = let p = length-replicate n U in let q = numeral-us n in λ i. edge-made b (p i) (q i) Zero
+    go false = constant-end n b
 
 pub constant-there : (D : Meaning) (n : ℕ) (b : Bool) → edge-of (constant-record D n b) ≡ flat D n b
-constant-there D n b = edge-there (flat D n b)
+constant-there D n b = ap edge-of (sym (constant-is D n b)) ∙ edge-there (flat D n b)
+
+pub constant-spelled : (D : Meaning) (n : ℕ) (b : Bool) → spelled-edge (constant-record D n b) ≡ true
+constant-spelled D n b = ap spelled-edge (sym (constant-is D n b)) ∙ edge-spelled (flat D n b)
 
 -- the letter c on e stands for the halves that making knows
 pub halves-there : (D : Meaning) (n : ℕ) (c : Letter) (e : EdgeRecord) →
@@ -252,10 +260,10 @@ pub halves-spelled : (D : Meaning) (n : ℕ) (c : Letter) (e : EdgeRecord) → s
     (spelled-edge (halves-on D n c e .0) ≡ true) × (spelled-edge (halves-on D n c e .1) ≡ true)
 halves-spelled D n U e h = (h, h)
 halves-spelled D n X e h = (h, h)
-halves-spelled D n C00 e h = (edge-spelled (flat D n false), h)
-halves-spelled D n C01 e h = (edge-spelled (flat D n true), h)
-halves-spelled D n C10 e h = (h, edge-spelled (flat D n false))
-halves-spelled D n C11 e h = (h, edge-spelled (flat D n true))
+halves-spelled D n C00 e h = (constant-spelled D n false, h)
+halves-spelled D n C01 e h = (constant-spelled D n true, h)
+halves-spelled D n C10 e h = (h, constant-spelled D n false)
+halves-spelled D n C11 e h = (h, constant-spelled D n true)
 
 -- Letters that making chooses --
 

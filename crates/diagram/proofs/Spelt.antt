@@ -4,8 +4,8 @@ use mathlib.Core.Bool.{Bool, true, false, not, cond, _&&_}
 use mathlib.Core.List.{List, [], _∷_}
 use Prim.Native.Nat.{ℕ, zero, suc, _+_, _-_, _<_, _≤_}
 use native.Mathlib.Omega.{arith}
-use lib.Dec.{eqb, leb}
-use Rattle.std.proofs.shelf.Tests.{and-parts, and-from, le-leb, lt-leb, leb-false}
+use lib.Dec.{eqb, leb, ltb}
+use Rattle.std.proofs.shelf.Tests.{and-parts, and-from, le-leb, lt-leb, leb-false, ltb-true, ltb-false}
 use Rattle.std.specs.declared.option.Option.{Option}
 use Rattle.std.specs.declared.option.Option.the-variants.{None, Some}
 use Rattle.diagram.specs.declared.letters.Letter.{Letter}
@@ -17,11 +17,11 @@ use Rattle.diagram.specs.Words.{letters-of, spells, peeled}
 use Rattle.diagram.specs.Edges.{Target, Edge, edge, Store, foot, diamond-rule, rule-of}
 use Rattle.diagram.specs.Making.{flat, choose, low-of, high-of, upright}
 use Rattle.diagram.specs.Acceptance.{inside, usual, gives, well-spelled, accepts, acceptable}
-use Rattle.diagram.specs.Records.{target-of, edge-of, store-of, spelled-edge, accepted-in, letter-chosen}
+use Rattle.diagram.specs.Records.{target-of, edge-of, store-of, stands-in, spelled-edge, accepted-in, letter-chosen}
 use Rattle.diagram.proofs.Eights.{peel-none}
 use Rattle.diagram.proofs.Bridge.{arity-edge}
 use Rattle.diagram.proofs.Placed.{arity-record, length-letters}
-use Rattle.diagram.proofs.Recorded.{letter-test}
+use Rattle.diagram.proofs.Recorded.{letter-test, stands-there}
 
 never : {A : Type 0} → _≡_ {A = ℕ} 0 1 → A
 never z = absurd (omega arith)
@@ -110,8 +110,8 @@ module _ (D : Meaning) (ds : List DiamondRecord) (e : EdgeRecord) (f : ℕ) (a :
   abbrev rest : Bool
   rest = well-spelled D (store-of ds) (target-of (e .target)) (letters-of (e .length) (e .word))
 
-  pub not-standing : inside (store-of ds) (target-of (e .target)) ≡ false → accepted-in D ds e ≡ false
-  not-standing h = accepted-by D ds e f a ∙ simp h
+  pub not-standing : stands-in ds (e .target) ≡ false → accepted-in D ds e ≡ false
+  not-standing h = let p = sym (stands-there ds (e .target)) ∙ h in accepted-by D ds e f a ∙ simp p
 
   pub not-suiting : suiting ≡ false → accepted-in D ds e ≡ false
   not-suiting h =
@@ -132,16 +132,17 @@ module _ (D : Meaning) (ds : List DiamondRecord) (e : EdgeRecord) (f : ℕ) (a :
           simp m
       go false p false q = refl
 
-  pub too-long : 20 < e .length + f → accepted-in D ds e ≡ false
+  pub too-long : ltb 20 (e .length + f) ≡ true → accepted-in D ds e ≡ false
   too-long h =
-      let m = lt-leb (e .length + f) 20 h in
+      let m = lt-leb (e .length + f) 20 (ltb-true 20 (e .length + f) h) in
       accepted-by D ds e f a
       ∙ and-last (inside (store-of ds) (target-of (e .target))) (suiting && (spelled-edge e && (leb (e .length + f) 20 && rest)))
       (and-last suiting (spelled-edge e && (leb (e .length + f) 20 && rest)) (and-last (spelled-edge e) (leb (e .length + f) 20 && rest) (simp m)))
 
-  pub all-but-letters : inside (store-of ds) (target-of (e .target)) ≡ true → suiting ≡ true → (leb (e .length) 20 && spelled-edge e) ≡ true → e .length + f ≤ 20 →
+  pub all-but-letters : stands-in ds (e .target) ≡ true → suiting ≡ true → (leb (e .length) 20 && spelled-edge e) ≡ true → ltb 20 (e .length + f) ≡ false →
       accepted-in D ds e ≡ rest
   all-but-letters p q r l =
+      let t = sym (stands-there ds (e .target)) ∙ p in
       let s = and-parts (leb (e .length) 20) (spelled-edge e) r .1 in
-      let m = le-leb (e .length + f) 20 l in
-      accepted-by D ds e f a ∙ simp (p, q, s, m)
+      let m = le-leb (e .length + f) 20 (ltb-false 20 (e .length + f) l) in
+      accepted-by D ds e f a ∙ simp (t, q, s, m)

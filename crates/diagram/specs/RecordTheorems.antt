@@ -14,7 +14,7 @@ use Rattle.diagram.specs.Dialects.{Lawful}
 use Rattle.diagram.specs.Making.{Made, insert, count}
 use Rattle.diagram.specs.Acceptance.{normal}
 use Rattle.diagram.specs.Walks.{walk}
-use Rattle.diagram.specs.Records.{edge-of, store-of, edge-record, diamonds-of, spelled-edge, spelled-diamonds, accepted-in}
+use Rattle.diagram.specs.Records.{edge-of, store-of, edge-record, diamonds-of, arity-in, spelled-edge, spelled-diamonds, accepted-in}
 
 -- the diamonds ds are normal in the dialect D, and the words of their edges spell
 abbrev pub Normal-in : Meaning → List DiamondRecord → Type 0
@@ -23,6 +23,10 @@ Normal-in D ds = (normal D (store-of ds) ≡ true) × (spelled-diamonds ds ≡ t
 -- the rule that the edge e means among the diamonds ds
 abbrev pub rule-in : List DiamondRecord → EdgeRecord → Rule
 rule-in ds e = rule-of (store-of ds) (edge-of e)
+
+-- an edge has as many marks as its length and its target's arity say, whatever the diamonds
+abbrev pub Arity-meant : Type 0
+Arity-meant = (ds : List DiamondRecord) (e : EdgeRecord) → arity (rule-in ds e) ≡ arity-in ds e
 
 -- two accepted edges of as many marks are the same, in mark, length, word and target, just where they have the same value at every assignment
 abbrev pub Records-told : Type 0

@@ -3,7 +3,7 @@
 use mathlib.Core.Bool.{Bool, true, false, not, cond, _&&_, Bool·beq}
 use mathlib.Core.List.{List, [], _∷_, map, reverse}
 use Prim.Native.Nat.{ℕ, _+_}
-use lib.Dec.{eqb}
+use lib.Dec.{eqb, ltb}
 use lib.ListN.{length}
 use Rattle.std.specs.declared.option.Option.{Option}
 use Rattle.std.specs.declared.option.Option.the-variants.{None, Some}
@@ -14,12 +14,12 @@ use Rattle.diagram.specs.declared.edges.Target.{Target as TargetRecord}
 use Rattle.diagram.specs.declared.edges.Target.the-variants.{Zero, One, Diamond as DiamondNumber}
 use Rattle.diagram.specs.declared.edges.Edge.{Edge as EdgeRecord}
 use Rattle.diagram.specs.declared.edges.Diamond.{Diamond as DiamondRecord}
+use Rattle.diagram.specs.Rules.{arity}
 use Rattle.diagram.specs.Words.{numeral, letters-of, spells, pushed}
-use Rattle.diagram.specs.Edges.{Target, terminal, diamond, Edge, edge, Diamond, pair, Store, turned}
+use Rattle.diagram.specs.Edges.{Target, terminal, diamond, Edge, edge, Diamond, pair, Store, turned, foot, diamond-rule}
 use Rattle.diagram.specs.declared.letters.Kind.{Kind}
 use Rattle.diagram.specs.declared.letters.Kind.the-variants.{Mixed}
 use Rattle.diagram.specs.Dialects.{constantly, flips, look-at, answer-at, same-answer}
-use Rattle.diagram.specs.Making.{flat}
 use Rattle.diagram.specs.Acceptance.{acceptable}
 
 -- What a record stands for --
@@ -54,7 +54,23 @@ diamond-record d = record { low = edge-record (d .low); high = edge-record (d .h
 abbrev pub diamonds-of : Store → List DiamondRecord
 diamonds-of s = map diamond-record (reverse s)
 
+-- Arity --
+
+-- the arity of a target among the diamonds ds
+abbrev pub target-arity : List DiamondRecord → TargetRecord → ℕ
+target-arity ds t = arity (foot (diamond-rule (store-of ds)) (target-of t))
+
+-- the arity of an edge is its length and its target's arity
+abbrev pub arity-in : List DiamondRecord → EdgeRecord → ℕ
+arity-in ds e = e .length + target-arity ds (e .target)
+
 -- Words that spell, and acceptance --
+
+-- a terminal stands everywhere, and a diamond where there are more diamonds than its number
+abbrev pub stands-in : List DiamondRecord → TargetRecord → Bool
+stands-in ds Zero = true
+stands-in ds One = true
+stands-in ds (DiamondNumber k) = ltb k (length ds)
 
 -- the word is below 8^length, and each of its digits is a letter
 abbrev pub spelled-edge : EdgeRecord → Bool
@@ -130,9 +146,10 @@ lengthened e (Some w) = Some (record { negated = e .negated; length = e .length 
 abbrev pub with-letter : Letter → EdgeRecord → Option EdgeRecord
 with-letter c e = lengthened e (pushed (e .length) (e .word) (turned (e .negated) c))
 
--- the edge of n marks that is constantly b
+-- the edge of n marks that is constantly b: u alone, so that the word is 0; where the dialect negates, one is the negated zero
 abbrev pub constant-record : Meaning → ℕ → Bool → EdgeRecord
-constant-record D n b = edge-record (flat D n b)
+constant-record D n b =
+    cond (D .negates) (record { negated = b; length = n; word = 0; target = Zero }) (record { negated = false; length = n; word = 0; target = cond b One Zero })
 
 -- the low and the high half that a letter stands for, on the edge e of n marks
 abbrev pub halves-on : Meaning → ℕ → Letter → EdgeRecord → EdgeRecord × EdgeRecord

@@ -2,12 +2,13 @@
 ghost use mathlib.Core.Path.{_≡_};
 ghost use mathlib.Core.Bool.{Bool, true, false, not, cond};
 ghost use Prim.Native.Nat.{ℕ, _+_, _*_, _^_, _<_, _≤_};
+ghost use lib.Dec.{ltb};
 ghost use lib.ListN.{length};
-ghost use Rattle.diagram.specs.Rules.{arity};
+ghost use Rattle.diagram.specs.Rules.{arity as marks-of};
 ghost use Rattle.diagram.specs.Words.{letters-of};
-ghost use Rattle.diagram.specs.Edges.{Store, diamond-rule, foot as foot-of, rule-of};
-ghost use Rattle.diagram.specs.Acceptance.{inside, usual, well-spelled};
-ghost use Rattle.diagram.specs.Records.{target-of, edge-of, store-of, spelled-edge, accepted-in, constant-record, halves-on, letter-chosen};
+ghost use Rattle.diagram.specs.Edges.{Store, diamond-rule, foot as foot-of};
+ghost use Rattle.diagram.specs.Acceptance.{usual, well-spelled};
+ghost use Rattle.diagram.specs.Records.{target-of, target-arity, arity-in, stands-in, spelled-edge, accepted-in, constant-record, halves-on, letter-chosen};
 use crate::edges::Diamond;
 use crate::edges::Edge;
 use crate::edges::Target;
@@ -18,7 +19,7 @@ use crate::words::spelled;
 
 // The arity of a target among some diamonds; the edges of a diamond go to diamonds before it.
 fn target_arity(diamonds: &[Diamond], target: Target) -> u32
-    ensures value { λ r. ⌜ r ≡ arity (foot-of (diamond-rule (store-of (now (diamonds .entry)))) (target-of target)) ⌝ }
+    ensures value { λ r. ⌜ r ≡ target-arity (now (diamonds .entry)) target ⌝ }
     ensures bound { λ r. ⌜ r ≤ 256 * length (now (diamonds .entry)) ⌝ }
     ensures small { λ r. ⌜ r ≤ 2 ^ 24 ⌝ }
 {
@@ -33,19 +34,27 @@ fn target_arity(diamonds: &[Diamond], target: Target) -> u32
 
 // The arity of an edge: its length and the arity of its target.
 pub fn arity(diamonds: &[Diamond], edge: Edge) -> u32
-    ensures { λ r. ⌜ r ≡ arity (rule-of (store-of (now (diamonds .entry))) (edge-of edge)) ⌝ }
+    ensures { λ r. ⌜ r ≡ arity-in (now (diamonds .entry)) edge ⌝ }
 {
     edge.length as u32 + target_arity(diamonds, edge.target)
 }
 
 // Whether the target is a terminal or a diamond that stands.
 fn stands(diamonds: &[Diamond], target: Target) -> bool
-    ensures { λ r. ⌜ r ≡ inside (store-of (now (diamonds .entry))) (target-of target) ⌝ }
+    ensures { λ r. ⌜ r ≡ stands-in (now (diamonds .entry)) target ⌝ }
 {
     match target {
         Target::Diamond(k) => (k as usize) < diamonds.len(),
         _ => true,
     }
+}
+
+// Whether so many letters and the marks of the target are more than a rule may have.
+fn too_long(length: u8, foot: u32) -> bool
+    requires { ⌜ foot ≤ 2 ^ 24 ⌝ }
+    ensures { λ r. ⌜ r ≡ ltb 20 (length + foot) ⌝ }
+{
+    length as u32 + foot > 20
 }
 
 impl Meaning {
@@ -109,7 +118,7 @@ impl Meaning {
         requires spelled { ⌜ spelled-edge edge ≡ true ⌝ }
         requires upright { ⌜ edge .negated ≡ false ⌝ }
         requires short { ⌜ edge .length + foot ≤ 20 ⌝ }
-        ensures { λ r. ⌜ ((s : Store) → arity (foot-of (diamond-rule s) (target-of (edge .target))) ≡ foot → r ≡ well-spelled (now (self .entry)) s (target-of (edge .target)) (letters-of (edge .length) (edge .word))) ⌝ }
+        ensures { λ r. ⌜ ((s : Store) → marks-of (foot-of (diamond-rule s) (target-of (edge .target))) ≡ foot → r ≡ well-spelled (now (self .entry)) s (target-of (edge .target)) (letters-of (edge .length) (edge .word))) ⌝ }
     {
         match peel(edge.length, edge.word) {
             None => true,
@@ -133,7 +142,7 @@ impl Meaning {
             return false;
         }
         let foot = target_arity(diamonds, edge.target);
-        if edge.length as u32 + foot > 20 {
+        if too_long(edge.length, foot) {
             return false;
         }
         let upright = Edge {

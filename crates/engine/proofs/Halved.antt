@@ -21,7 +21,7 @@ use Rattle.diagram.specs.Edges.{Edge, edge, Diamond, Store, foot, sign, spell, 
 use Rattle.diagram.specs.Dialects.{Lawful}
 use Rattle.diagram.specs.Making.{flat, upright, low-of, high-of, low-upright, high-upright, flip-if, low-half, high-half}
 use Rattle.diagram.specs.Acceptance.{Within, Accepted, Acceptable, Normal, normal}
-use Rattle.diagram.specs.Records.{target-of, edge-of, diamond-of, store-of, spelled-edge, spelled-diamonds, accepted-in, halves-on, other-mark}
+use Rattle.diagram.specs.Records.{target-of, edge-of, diamond-of, store-of, arity-in, spelled-edge, spelled-diamonds, accepted-in, halves-on, other-mark}
 use Rattle.diagram.proofs.Bridge.{arity-edge, nth}
 use Rattle.diagram.proofs.Notions.{Halves}
 use Rattle.diagram.proofs.Told.{even-rule}
@@ -31,7 +31,7 @@ use Rattle.diagram.proofs.Placed.{arity-record, arity-step, no-diamond}
 use Rattle.diagram.proofs.Recorded.{edge-made, store-length, halves-there, halves-spelled}
 use Rattle.diagram.proofs.Recording.{spelled-in, acceptable-in, accepted-met}
 use Rattle.diagram.proofs.Spelt.{nothing-peeled}
-use Rattle.engine.specs.States.{Edge-of-arity, half-at}
+use Rattle.engine.specs.States.{Edge-of-arity, half-at, end-value}
 
 -- a diamond of the list is that of the store
 pub diamond-there : (ds : List DiamondRecord) (k : ℕ) (d : DiamondRecord) → k < length ds → diamond-of (getD ds k d) ≡ diamond-at (store-of ds) k
@@ -77,7 +77,6 @@ module _ (D : Meaning) (ds : List DiamondRecord) (e : EdgeRecord) (n : ℕ) (a :
   pub to-diamond : 0 < n → peeled (e .length) (e .word) ≡ None → ((k : ℕ) → e .target ≡ DiamondNumber k → ⊥) → ⊥
   to-diamond h p t =
       let q = no-letters p in
-      let r = arity-record (store-of ds) e in
       let s = terminal-arity (diamond-rule (store-of ds)) (e .target) t in
       let m = a .marks in
       omega arith
@@ -92,9 +91,9 @@ module _ (D : Meaning) (ds : List DiamondRecord) (e : EdgeRecord) (n : ℕ) (a :
 
     below-arity : arity (rule-of (store-of ds) (edge-of below)) ≡ n - 1
     below-arity =
-        let p = arity-edge (store-of ds) (edge-of e) in
+        let p = arity-record (store-of ds) e ∙ a .marks in
+        let o = arity-edge (store-of ds) (edge-of e) in
         let q = arity-edge (store-of ds) (edge-of below) in
-        let m = a .marks in
         let k = ap length l in
         omega arith
 
@@ -144,6 +143,7 @@ module _ (D : Meaning) (law : Lawful D) (ds : List DiamondRecord) (ns : normal D
   halves : Halves D (store-of ds) (edge-of e)
   halves =
       let m = a .marks in
+      let k = arity-record (store-of ds) e in
       halves-right D law (store-of ds) (normal-right D (store-of ds) .0 ns) (edge-of e) (acceptable-in D ds e (a .accepted) .accepted) (omega arith)
 
   -- the arity of either half is one less
@@ -151,7 +151,7 @@ module _ (D : Meaning) (law : Lawful D) (ds : List DiamondRecord) (ns : normal D
   halves-arity =
       let r = halves .rule in
       let p = ap arity r in
-      let m = a .marks in
+      let m = arity-record (store-of ds) e ∙ a .marks in
       let ev = subst Even r (even-rule D (store-of ds) (normal-right D (store-of ds) .0 ns) (edge-of e)) in
       let q = ev .2 in
       (omega arith, omega arith)
@@ -160,17 +160,17 @@ module _ (D : Meaning) (law : Lawful D) (ds : List DiamondRecord) (ns : normal D
   half-fit r true s p =
       let l = halves-arity .1 in
       let m = acceptable-in D ds e (a .accepted) .short in
-      let k = a .marks in
+      let k = arity-record (store-of ds) e ∙ a .marks in
       let q : arity (rule-of (store-of ds) (edge-of r)) ≡ n - 1 = ap (λ (x : Edge). arity (rule-of (store-of ds) x)) p ∙ l in
       let c : Acceptable D (store-of ds) (edge-of r) = record { accepted = subst (λ (x : Edge). Accepted D (store-of ds) x) (sym p) (halves .high-accepted); short = omega arith } in
-      record { accepted = accepted-met D ds r s c; marks = q }
+      record { accepted = accepted-met D ds r s c; marks = sym (arity-record (store-of ds) r) ∙ q }
   half-fit r false s p =
       let l = halves-arity .0 in
       let m = acceptable-in D ds e (a .accepted) .short in
-      let k = a .marks in
+      let k = arity-record (store-of ds) e ∙ a .marks in
       let q : arity (rule-of (store-of ds) (edge-of r)) ≡ n - 1 = ap (λ (x : Edge). arity (rule-of (store-of ds) x)) p ∙ l in
       let c : Acceptable D (store-of ds) (edge-of r) = record { accepted = subst (λ (x : Edge). Accepted D (store-of ds) x) (sym p) (halves .low-accepted); short = omega arith } in
-      record { accepted = accepted-met D ds r s c; marks = q }
+      record { accepted = accepted-met D ds r s c; marks = sym (arity-record (store-of ds) r) ∙ q }
 
   -- the value of the whole is that of the half which the first mark picks
   pub half-value : (r : EdgeRecord) (x : ℕ) → edge-of r ≡ half-at (eqb (x % 2) 1) D (store-of ds) (edge-of e) →
@@ -184,29 +184,27 @@ module _ (D : Meaning) (law : Lawful D) (ds : List DiamondRecord) (ns : normal D
       go false q = let o = eqb-false (x % 2) 1 q in let z = eq-eqb (x % 2) 0 (omega arith) in simp z
 
 -- the value of an edge of no mark
-pub value-none : (D : Meaning) (ds : List DiamondRecord) (e : EdgeRecord) (x : ℕ) → Edge-of-arity D ds e 0 →
-    (e .target ≡ One → not (e .negated) ≡ value (rule-of (store-of ds) (edge-of e)) x) × ((e .target ≡ One → ⊥) → e .negated ≡ value (rule-of (store-of ds) (edge-of e)) x)
+pub value-none : (D : Meaning) (ds : List DiamondRecord) (e : EdgeRecord) (x : ℕ) → Edge-of-arity D ds e 0 → end-value (e .negated) (e .target) ≡ value (rule-of (store-of ds) (edge-of e)) x
 value-none D ds e x a =
-    let p = arity-record (store-of ds) e in
     let m = a .marks in
     let z : e .length ≡ 0 = omega arith in
     let f : arity (foot (diamond-rule (store-of ds)) (target-of (e .target))) ≡ 0 = omega arith in
     let w : rule-of (store-of ds) (edge-of e) ≡ sign (e .negated) (foot (diamond-rule (store-of ds)) (target-of (e .target))) =
     ap (λ (k : ℕ). sign (e .negated) (spell (letters-of k (e .word)) (foot (diamond-rule (store-of ds)) (target-of (e .target))))) z in
-    let g = go (e .target) (e .negated) f (λ k t. standing D ds e 0 a k t) in
-    (λ t. g .0 t ∙ ap (λ (r : Rule). value r x) (sym w), λ t. g .1 t ∙ ap (λ (r : Rule). value r x) (sym w))
+    go (e .target) (e .negated) f (λ k t. standing D ds e 0 a k t) ∙ ap (λ (r : Rule). value r x) (sym w)
   where
     go : (t : TargetRecord) (b : Bool) → arity (foot (diamond-rule (store-of ds)) (target-of t)) ≡ 0 → ((k : ℕ) → t ≡ DiamondNumber k → k < length ds) →
-        (t ≡ One → not b ≡ value (sign b (foot (diamond-rule (store-of ds)) (target-of t))) x) × ((t ≡ One → ⊥) → b ≡ value (sign b (foot (diamond-rule (store-of ds)) (target-of t))) x)
-    go Zero true f k = (λ q. let y : _≡_ {A = ℕ} 0 1 = cc in absurd (omega arith), λ q. refl)
-    go Zero false f k = (λ q. let y : _≡_ {A = ℕ} 0 1 = cc in absurd (omega arith), λ q. refl)
-    go One true f k = (λ q. refl, λ q. absurd (q refl))
-    go One false f k = (λ q. refl, λ q. absurd (q refl))
+        end-value b t ≡ value (sign b (foot (diamond-rule (store-of ds)) (target-of t))) x
+    go Zero true f k = refl
+    go Zero false f k = refl
+    go One true f k = refl
+    go One false f k = refl
     go (DiamondNumber j) b f k = let y = arity-step ds j no-diamond (k j refl) in absurd (omega arith)
 
 -- an edge that passed the test has at most 20 marks
-pub marks-most : (D : Meaning) (ds es : List DiamondRecord) (e : EdgeRecord) (n : ℕ) → ds ≡ es → true ≡ accepted-in D ds e → n ≡ arity (rule-of (store-of es) (edge-of e)) → n ≤ 20
+pub marks-most : (D : Meaning) (ds es : List DiamondRecord) (e : EdgeRecord) (n : ℕ) → ds ≡ es → true ≡ accepted-in D ds e → n ≡ arity-in es e → n ≤ 20
 marks-most D ds es e n p t q =
     let b = acceptable-in D ds e (sym t) .short in
-    let r = ap (λ (xs : List DiamondRecord). arity (rule-of (store-of xs) (edge-of e))) p in
+    let k = arity-record (store-of ds) e in
+    let r = ap (λ (xs : List DiamondRecord). arity-in xs e) p in
     omega arith

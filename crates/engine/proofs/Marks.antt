@@ -4,9 +4,9 @@ use mathlib.Core.Bool.{Bool, true, false, cond}
 use mathlib.Core.List.{List}
 use Prim.Native.Nat.{ℕ, zero, suc, _+_, _-_, _<_, _≤_}
 use native.Mathlib.Omega.{arith}
-use lib.Dec.{leb}
+use lib.Dec.{leb, ltb}
 use lib.ListN.{length}
-use Rattle.std.proofs.shelf.Tests.{le-leb, lt-ltb}
+use Rattle.std.proofs.shelf.Tests.{le-leb, lt-ltb, leb-true, ltb-true}
 use Rattle.std.specs.declared.option.Option.the-variants.{Some}
 use Rattle.std.specs.declared.result.Result.{Result}
 use Rattle.std.specs.declared.result.Result.the-variants.{Ok, Err}
@@ -29,7 +29,7 @@ use Rattle.diagram.proofs.Main.{insert-back}
 use Rattle.diagram.proofs.Sound.{insert-sound}
 use Rattle.diagram.proofs.Bridge.{arity-edge}
 use Rattle.diagram.proofs.Decides.{normal-right}
-use Rattle.diagram.proofs.Recorded.{edge-there, edge-spelled, constant-there}
+use Rattle.diagram.proofs.Recorded.{edge-there, edge-spelled, constant-is, constant-there, constant-spelled}
 use Rattle.diagram.proofs.Recording.{accepted-met}
 use Rattle.diagram.proofs.Made.{insert-double, with-letter-there}
 use Rattle.engine.specs.Steps.{Outcome, kept, inserted, constant-step, variable-step}
@@ -44,7 +44,7 @@ insert-full D law s ns n b = ap (insert D s) (sym (sense-flat (diamond-rule s) D
 
 pub inserted-full : (D : Meaning) → Lawful D → (ds : List DiamondRecord) → normal D (store-of ds) ≡ true → spelled-diamonds ds ≡ true → length ds ≤ 1024 → (n : ℕ) (b : Bool) →
     inserted D ds (full n b) ≡ (Ok (constant-record D n b), ds)
-inserted-full D law ds ns h l n b = ap (kept ds) (insert-full D law (store-of ds) (normal-right D (store-of ds) .0 ns) n b) ∙ kept-same ds (flat D n b) h l
+inserted-full D law ds ns h l n b = ap (kept ds) (insert-full D law (store-of ds) (normal-right D (store-of ds) .0 ns) n b) ∙ kept-same ds (flat D n b) h l ∙ ap (λ (e : EdgeRecord). (Ok e, ds)) (constant-is D n b)
 
 constant-arity : (D : Meaning) (ds : List DiamondRecord) (n : ℕ) (b : Bool) → arity (rule-of (store-of ds) (edge-of (constant-record D n b))) ≡ n
 constant-arity D ds n b =
@@ -55,7 +55,7 @@ constant-in D ds n b h =
     let a = constant-arity D ds n b in
     let k : Acceptable D (store-of ds) (edge-of (constant-record D n b)) =
     record { accepted = subst (λ (e : Edge). Accepted D (store-of ds) e) (sym (constant-there D n b)) (flat-accepted D (store-of ds) n b); short = omega arith } in
-    accepted-met D ds (constant-record D n b) (edge-spelled (flat D n b)) k
+    accepted-met D ds (constant-record D n b) (constant-spelled D n b) k
 
 pub constants-fit : (D : Meaning) (ds : List DiamondRecord) (n : ℕ) → n ≤ 19 → Halves-fit D ds (constant-record D n false) (constant-record D n true)
 constants-fit D ds n h =
@@ -170,3 +170,15 @@ refused-full ds m x xs p = go (leb (length (m .0)) 1024) p
         let z : _≡_ {A = ℕ} 0 1 = cc in
         absurd (omega arith)
     go false q = let a : Err x ≡ Err Full = ap (λ (o : Outcome). o .0) q in cc
+
+-- a number that was answered passed its test, and is the one that was given
+pub passed : (b : Bool) (n m : ℕ) (x : Refusal) → Ok n ≡ cond b (Ok m) (Err x) → (b ≡ true) × (n ≡ m)
+passed true n m x p = (refl, cc)
+passed false n m x p = let z : _≡_ {A = ℕ} 0 1 = cc in absurd (omega arith)
+
+-- what was inserted for the numbers that passed is the call's outcome
+pub variable-told : (D : Meaning) (ds : List DiamondRecord) (n i m j : ℕ) → (leb n 20 ≡ true) × (m ≡ n) → (ltb i m ≡ true) × (j ≡ i) → inserted D ds (variable m j) ≡ variable-step D ds n i
+variable-told D ds n i m j p q =
+    let a = ltb-true i m (q .0) in
+    let b = p .1 in
+    ap₂ (λ (x y : ℕ). inserted D ds (variable x y)) (p .1) (q .1) ∙ sym (variable-answer D ds n i (leb-true n 20 (p .0)) (omega arith))

@@ -14,10 +14,10 @@ use Rattle.diagram.specs.declared.meanings.Meaning.{Meaning}
 use Rattle.diagram.specs.declared.refusals.Refusal.{Refusal}
 use Rattle.diagram.specs.declared.refusals.Refusal.the-variants.{ArityOver, NotAccepted, NoVariable, AssignmentOver, Full}
 use Rattle.diagram.specs.Refusals.{refusal-number}
-use Rattle.diagram.specs.Rules.{Rule, arity, full, variable, value}
+use Rattle.diagram.specs.Rules.{Rule, full, variable, value}
 use Rattle.diagram.specs.Edges.{rule-of}
 use Rattle.diagram.specs.Making.{Made, insert}
-use Rattle.diagram.specs.Records.{edge-of, store-of, edge-record, diamonds-of, accepted-in}
+use Rattle.diagram.specs.Records.{edge-of, store-of, edge-record, diamonds-of, arity-in, accepted-in}
 
 -- an answer, and the diamonds after it
 abbrev pub Outcome : Type 0
@@ -45,7 +45,7 @@ variable-step D ds n i = cond (leb n 20) (cond (ltb i n) (inserted D ds (variabl
 abbrev pub evaluate-step : Meaning → List Diamond → Edge → ℕ → Result Bool Refusal
 evaluate-step D ds e a =
     cond (accepted-in D ds e)
-    (cond (ltb a (2 ^ arity (rule-of (store-of ds) (edge-of e)))) (Ok (value (rule-of (store-of ds) (edge-of e)) a)) (Err AssignmentOver))
+    (cond (ltb a (2 ^ arity-in ds e)) (Ok (value (rule-of (store-of ds) (edge-of e)) a)) (Err AssignmentOver))
     (Err NotAccepted)
 
 -- The cache's map --

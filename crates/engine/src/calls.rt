@@ -1,9 +1,13 @@
 // The calls on an engine.
 ghost use mathlib.Core.Path.{_≡_};
+ghost use mathlib.Core.Bool.{cond};
 ghost use mathlib.Core.List.{[]};
+ghost use lib.Dec.{leb, ltb};
 ghost use Rattle.std.specs.Of.Vec.{vec-items};
 ghost use Rattle.std.specs.Vec.{made};
 ghost use Rattle.std.specs.declared.option.Option.the-variants.{None};
+ghost use Rattle.std.specs.declared.result.Result.the-variants.{Ok, Err};
+ghost use Rattle.diagram.specs.declared.refusals.Refusal.the-variants.{ArityOver, NoVariable};
 ghost use Rattle.cache.specs.declared.entries.Key.{Key};
 ghost use Rattle.engine.specs.Steps.{constant-step, variable-step, evaluate-step, map-after};
 use crate::engines::Engine;
@@ -18,6 +22,26 @@ use diagram::profiles::Profile;
 use diagram::refusals::Refusal;
 use std::alloc::AllocError;
 use std::alloc::Global;
+
+// The arity, which is at most 20.
+fn checked_arity(arity: u32) -> Result<u8, Refusal>
+    ensures { λ r. ⌜ r ≡ cond (leb arity 20) (Ok arity) (Err ArityOver) ⌝ }
+{
+    if arity > 20 {
+        return Err(Refusal::ArityOver);
+    }
+    Ok(arity as u8)
+}
+
+// The number of a mark, which is below the arity.
+fn checked_mark(arity: u8, i: u32) -> Result<u8, Refusal>
+    ensures { λ r. ⌜ r ≡ cond (ltb i arity) (Ok i) (Err NoVariable) ⌝ }
+{
+    if i >= arity as u32 {
+        return Err(Refusal::NoVariable);
+    }
+    Ok(i as u8)
+}
 
 impl<C: Cache + Drop> Engine<C> {
     // A new engine of a dialect: no diamonds, and nothing in its cache. Only this call can want memory.
@@ -50,15 +74,21 @@ impl<C: Cache + Drop> Engine<C> {
         self.state.diamonds.as_slice()
     }
 
+    // Forgets what the cache holds.
+    fn forget(&mut self)
+        ensures state { λ _. ⌜ (now (self .exit) .state .diamonds ≡ now (self .entry) .state .diamonds) × (now (self .exit) .state .profile ≡ now (self .entry) .state .profile) ⌝ }
+        ensures map { λ _. ⌜ ((k : Key) → C·Cache .held (now (self .exit) .cache) (now (self .exit) .state .table) k ≡ None) ⌝ }
+    {
+        self.cache.forget(&mut self.state.table);
+    }
+
     // The constant of `arity` marks with this value.
     pub fn constant(&self, arity: u32, value: bool) -> Result<Edge, Refusal>
         ensures answer { λ r. ⌜ r ≡ constant-step (now (self .entry) .state .profile .meaning) (vec-items (now (self .entry) .state .diamonds)) arity value .0 ⌝ }
         ensures diamonds { λ _. ⌜ vec-items (now (self .entry) .state .diamonds) ≡ constant-step (now (self .entry) .state .profile .meaning) (vec-items (now (self .entry) .state .diamonds)) arity value .1 ⌝ }
     {
-        if arity > 20 {
-            return Err(Refusal::ArityOver);
-        }
-        Ok(self.state.profile.meaning().constant(arity as u8, value))
+        let n = checked_arity(arity)?;
+        Ok(self.state.profile.meaning().constant(n, value))
     }
 
     // Mark i of `arity` marks.
@@ -68,16 +98,12 @@ impl<C: Cache + Drop> Engine<C> {
         ensures profile { λ _. ⌜ now (self .exit) .state .profile ≡ now (self .entry) .state .profile ⌝ }
         ensures map { λ r. ⌜ ((k : Key) → C·Cache .held (now (self .exit) .cache) (now (self .exit) .state .table) k ≡ map-after r (C·Cache .held (now (self .entry) .cache) (now (self .entry) .state .table) k)) ⌝ }
     {
-        if arity > 20 {
-            return Err(Refusal::ArityOver);
-        }
-        if i >= arity {
-            return Err(Refusal::NoVariable);
-        }
-        match self.state.insert_variable(arity as u8, i as u8) {
+        let n = checked_arity(arity)?;
+        let mark = checked_mark(n, i)?;
+        match self.state.insert_variable(n, mark) {
             Ok(edge) => Ok(edge),
             Err(refusal) => {
-                self.cache.forget(&mut self.state.table);
+                self.forget();
                 Err(refusal)
             }
         }

@@ -2,6 +2,7 @@
 ghost use mathlib.Core.Path.{_≡_};
 ghost use mathlib.Core.Bool.{true};
 ghost use Prim.Native.Nat.{_<_, _≤_};
+ghost use lib.Dec.{leb};
 ghost use Rattle.std.specs.Of.Vec.{vec-items};
 ghost use Rattle.diagram.specs.Rules.{variable};
 ghost use Rattle.diagram.specs.Making.{add, make, diamond-edge};
@@ -17,6 +18,13 @@ use diagram::refusals::Refusal;
 
 // How many diamonds an engine holds at most.
 pub const ROOM: usize = 1024;
+
+// Whether so many diamonds are as many as an engine holds.
+fn is_full(count: usize) -> bool
+    ensures { λ r. ⌜ r ≡ leb 1024 count ⌝ }
+{
+    count >= ROOM
+}
 
 // The edge to the diamond k.
 fn edge_to(k: usize) -> Edge
@@ -43,7 +51,7 @@ impl State {
             return Ok(edge_to(k));
         }
         let k = self.diamonds.len();
-        if k >= ROOM {
+        if is_full(k) {
             return Err(Refusal::Full);
         }
         self.diamonds.push_reserved(diamond);

@@ -1,13 +1,14 @@
 // The halves of an edge, and its values.
 ghost use mathlib.Core.Path.{_≡_};
 ghost use mathlib.Core.Bool.{true, cond};
-ghost use Prim.Native.Nat.{_<_, _-_};
+ghost use Prim.Native.Nat.{_<_, _-_, _%_};
+ghost use lib.Dec.{eqb};
 ghost use Rattle.std.specs.Of.Vec.{vec-items};
 ghost use Rattle.diagram.specs.Rules.{value};
 ghost use Rattle.diagram.specs.Edges.{rule-of};
 ghost use Rattle.diagram.specs.Making.{low-upright, high-upright};
 ghost use Rattle.diagram.specs.Records.{edge-of, store-of, spelled-edge};
-ghost use Rattle.engine.specs.States.{Edge-of-arity, half-at};
+ghost use Rattle.engine.specs.States.{Edge-of-arity, half-at, end-value};
 use crate::states::State;
 use diagram::edges::Edge;
 use diagram::edges::Target;
@@ -18,6 +19,23 @@ fn pick(halves: (Edge, Edge), high: bool) -> Edge
     ensures { λ r. ⌜ r ≡ cond high (halves .1) (halves .0) ⌝ }
 {
     if high { halves.1 } else { halves.0 }
+}
+
+// The value of an edge of no mark.
+fn end_value(edge: Edge) -> bool
+    ensures { λ r. ⌜ r ≡ end-value (edge .negated) (edge .target) ⌝ }
+{
+    match edge.target {
+        Target::One => !edge.negated,
+        _ => edge.negated,
+    }
+}
+
+// The first mark of an assignment.
+fn first_mark(assignment: u32) -> bool
+    ensures { λ r. ⌜ r ≡ eqb (assignment % 2) 1 ⌝ }
+{
+    assignment % 2 == 1
 }
 
 impl State {
@@ -66,12 +84,9 @@ impl State {
         ensures { λ r. ⌜ r ≡ value (rule-of (store-of (vec-items (now (self .entry) .diamonds))) (edge-of edge)) assignment ⌝ }
     {
         if n == 0 {
-            return match edge.target {
-                Target::One => !edge.negated,
-                _ => edge.negated,
-            };
+            return end_value(edge);
         }
-        let half = self.half(edge, n, assignment % 2 == 1);
+        let half = self.half(edge, n, first_mark(assignment));
         self.value(half, n - 1, assignment / 2)
     }
 }

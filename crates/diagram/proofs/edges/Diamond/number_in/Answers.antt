@@ -9,9 +9,9 @@ loop-k-holds c = (omega arith, number-all (c .args .diamonds .now) (c .args .sel
 pub loop-k-again : need.loop-k-again
 loop-k-again c = (
   omega arith,
-  c .loop-k .inv .1 ∙ number-step (c .args .diamonds .now) (c .loop-k .k) (c .args .self) no-diamond (c .loop-k-test .taken) (c .loop-k .inv .0) _ (sym (c .if-same .ensures tt)),
+  c .loop-k .inv .1 ∙ number-step (c .args .diamonds .now) (c .loop-k .k) (c .args .self) no-diamond (omega arith) (c .loop-k .inv .0) _ (sym (c .if-same .ensures tt)),
 )
 
 pub returns-then-same : need.returns-then-same
 returns-then-same c =
-    sym (c .loop-k .inv .1 ∙ number-step (c .args .diamonds .now) (c .loop-k .k) (c .args .self) no-diamond (c .loop-k-test .taken) (c .loop-k .inv .0) _ (sym (c .if-same .ensures tt)))
+    sym (c .loop-k .inv .1 ∙ number-step (c .args .diamonds .now) (c .loop-k .k) (c .args .self) no-diamond (omega arith) (c .loop-k .inv .0) _ (sym (c .if-same .ensures tt)))

@@ -14,13 +14,13 @@ returns-then-not-stands c =
       | then-not-stands·by·else-not-stands·else-not-suits·then-not-spelled w ↦ sym (not-spelled (c .args .self .now) (c .args .diamonds .now) (c .args .edge) _ refl (sym (w .if-not-spelled .ensures tt)))
     ]
 
-pub returns-then-edge-foot-gt20 : need.returns-then-edge-foot-gt20
-returns-then-edge-foot-gt20 c =
-    sym (too-long (c .args .self .now) (c .args .diamonds .now) (c .args .edge) (c .target-arity-foot .result) (sym (c .target-arity-foot .ensures .value)) (c .if-edge-foot-gt20 .taken))
+pub returns-then-too-long : need.returns-then-too-long
+returns-then-too-long c =
+    sym (too-long (c .args .self .now) (c .args .diamonds .now) (c .args .edge) (c .target-arity-foot .result) (sym (c .target-arity-foot .ensures .value)) (sym (c .if-too-long .ensures tt)))
 
 pub returns : need.returns
 returns c =
     let a = sym (c .target-arity-foot .ensures .value) in
     c .chooses-all .ensures (store-of (c .args .diamonds .now)) a
     ∙ sym (all-but-letters (c .args .self .now) (c .args .diamonds .now) (c .args .edge) (c .target-arity-foot .result) a
-    (sym (c .if-not-stands .ensures tt)) (sym (c .if-not-suits .ensures tt)) (sym (c .if-not-spelled .ensures tt)) (c .if-edge-foot-gt20 .left))
+    (sym (c .if-not-stands .ensures tt)) (sym (c .if-not-suits .ensures tt)) (sym (c .if-not-spelled .ensures tt)) (sym (c .if-too-long .ensures tt)))

@@ -5,6 +5,7 @@ use mathlib.Core.List.{List, [], _∷_, _++_}
 use native.Mathlib.Omega.{arith}
 use Prim.Native.Nat.{ℕ, _<_, _≤_}
 use lib.ListN.{length}
+use Rattle.std.proofs.shelf.Tests.{leb-true, leb-false}
 use Rattle.std.specs.Of.Vec.{vec-items, vec-len, vec-cap}
 use Rattle.std.specs.declared.option.Option.{Option}
 use Rattle.std.specs.declared.option.Option.the-variants.{Some, None}
@@ -29,11 +30,11 @@ returns-in-Some c =
       table = refl;
     }
 
-pub returns-then-k-ge-ROOM : need.returns-then-k-ge-ROOM
-returns-then-k-ge-ROOM c =
+pub returns-then-is-full : need.returns-then-is-full
+returns-then-is-full c =
     let s = c .args .self .now in
     let ds = vec-items (s .diamonds) in
-    let l : 1024 ≤ length ds = omega (arith, c .if-k-ge-ROOM .taken, c .len-k .ensures, s .diamonds .ok .0) in
+    let l : 1024 ≤ length ds = omega (arith, leb-true 1024 (c .len-k .result) (sym (c .if-is-full .ensures tt)), c .len-k .ensures, s .diamonds .ok .0) in
     record {
       outcome = sym (add-full (s .profile .meaning) ds (c .args .diamond) (s .spelled) (c .pre) l (ap (λ (xs : List Diamond). number-of xs (c .args .diamond)) (sym (c .as-slice .ensures .value)) ∙ sym (c .in-rest .ensures tt)));
       profile = refl;
@@ -46,7 +47,7 @@ ghost-self c =
     let ds = vec-items (s .diamonds) in
     let new = c .push-reserved .last .self in
     let is = c .push-reserved .ensures .items in
-    let few : vec-len new ≤ 1024 = omega (arith, c .push-reserved .ensures .len, c .if-k-ge-ROOM .left, c .len-k .ensures) in
+    let few : vec-len new ≤ 1024 = omega (arith, c .push-reserved .ensures .len, leb-false 1024 (c .len-k .result) (sym (c .if-is-full .ensures tt)), c .len-k .ensures) in
     let room : 1024 ≤ vec-cap new = omega (arith, s .room, c .push-reserved .ensures .capacity) in (
       few,
       (
@@ -65,7 +66,7 @@ pub returns : need.returns
 returns c =
     let s = c .args .self .now in
     let ds = vec-items (s .diamonds) in
-    let l : length ds < 1024 = omega (arith, c .if-k-ge-ROOM .left, c .len-k .ensures, s .diamonds .ok .0) in
+    let l : length ds < 1024 = omega (arith, leb-false 1024 (c .len-k .result) (sym (c .if-is-full .ensures tt)), c .len-k .ensures, s .diamonds .ok .0) in
     record {
       outcome =
           ap (λ (r : Edge). (Ok r, vec-items (c .push-reserved .last .self))) (c .edge-to-2 .ensures)
