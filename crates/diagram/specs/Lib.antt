@@ -12,3 +12,4 @@ pub mod Refusals
 pub mod Theorems
 pub mod RecordTheorems
 pub mod Keys
+pub mod Printed

@@ -9,6 +9,7 @@ pub mod letters;
 pub mod looks;
 pub mod making;
 pub mod meanings;
+pub mod printing;
 pub mod profiles;
 pub mod refusals;
 pub mod refusing;

@@ -32,7 +32,7 @@ use Rattle.diagram.proofs.Decides.{normal-right}
 use Rattle.diagram.proofs.Recorded.{edge-there, edge-spelled, constant-is, constant-there, constant-spelled}
 use Rattle.diagram.proofs.Recording.{accepted-met}
 use Rattle.diagram.proofs.Made.{insert-double, with-letter-there}
-use Rattle.engine.specs.Steps.{Outcome, kept, inserted, constant-step, variable-step}
+use Rattle.engine.specs.Steps.{Outcome, kept, inserted, variable-step}
 use Rattle.engine.specs.States.{Halves-fit}
 use Rattle.engine.proofs.Joining.{kept-same}
 
@@ -152,10 +152,6 @@ module _ (D : Meaning) (law : Lawful D) (ds : List DiamondRecord) (ns : normal D
       with-letter-there U r (subst (λ (e : EdgeRecord). spelled-edge e ≡ true) (sym k) (edge-spelled (before .1))) (omega arith)
 
 -- The calls --
-
-pub constant-answer : (D : Meaning) → Lawful D → (ds : List DiamondRecord) → normal D (store-of ds) ≡ true → spelled-diamonds ds ≡ true → length ds ≤ 1024 → (n : ℕ) (b : Bool) → n ≤ 20 →
-    constant-step D ds n b ≡ (Ok (constant-record D n b), ds)
-constant-answer D law ds ns h l n b m = let p = le-leb n 20 m in simp p (inserted-full D law ds ns h l n b)
 
 pub variable-answer : (D : Meaning) (ds : List DiamondRecord) (n i : ℕ) → n ≤ 20 → i < n → variable-step D ds n i ≡ inserted D ds (variable n i)
 variable-answer D ds n i l h = let p = le-leb n 20 l in let q = lt-ltb i n h in simp (p, q)

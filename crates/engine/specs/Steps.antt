@@ -14,10 +14,10 @@ use Rattle.diagram.specs.declared.meanings.Meaning.{Meaning}
 use Rattle.diagram.specs.declared.refusals.Refusal.{Refusal}
 use Rattle.diagram.specs.declared.refusals.Refusal.the-variants.{ArityOver, NotAccepted, NoVariable, AssignmentOver, Full}
 use Rattle.diagram.specs.Refusals.{refusal-number}
-use Rattle.diagram.specs.Rules.{Rule, full, variable, value}
+use Rattle.diagram.specs.Rules.{Rule, variable, value}
 use Rattle.diagram.specs.Edges.{rule-of}
 use Rattle.diagram.specs.Making.{Made, insert}
-use Rattle.diagram.specs.Records.{edge-of, store-of, edge-record, diamonds-of, arity-in, accepted-in}
+use Rattle.diagram.specs.Records.{edge-of, store-of, edge-record, diamonds-of, arity-in, accepted-in, constant-record}
 
 -- an answer, and the diamonds after it
 abbrev pub Outcome : Type 0
@@ -33,9 +33,9 @@ inserted D ds f = kept ds (insert D (store-of ds) f)
 
 -- The calls --
 
--- the constant b of n marks
-abbrev pub constant-step : Meaning → List Diamond → ℕ → Bool → Outcome
-constant-step D ds n b = cond (leb n 20) (inserted D ds (full n b)) (Err ArityOver, ds)
+-- the constant b of n marks; no diamond changes
+abbrev pub constant-step : Meaning → ℕ → Bool → Result Edge Refusal
+constant-step D n b = cond (leb n 20) (Ok (constant-record D n b)) (Err ArityOver)
 
 -- mark i of n marks
 abbrev pub variable-step : Meaning → List Diamond → ℕ → ℕ → Outcome
@@ -51,10 +51,10 @@ evaluate-step D ds e a =
 -- The cache's map --
 
 -- the number of a refusal, and 0 of an answer
-abbrev pub refused : {A : Type 0} → Result A Refusal → ℕ
-refused (Ok a) = 0
-refused (Err x) = refusal-number x
+abbrev pub refused-number : {A : Type 0} → Result A Refusal → ℕ
+refused-number (Ok a) = 0
+refused-number (Err x) = refusal-number x
 
 -- what the map gives for a key after a call that does not combine, where it gave o before: the same, but nothing after refusal 7
 abbrev pub map-after : {A : Type 0} → Result A Refusal → Option Edge → Option Edge
-map-after r o = cond (eqb (refused r) 7) None o
+map-after r o = cond (eqb (refused-number r) 7) None o

@@ -1,15 +1,18 @@
 // The calls on an engine.
 ghost use mathlib.Core.Path.{_≡_};
-ghost use mathlib.Core.Bool.{cond};
+ghost use mathlib.Core.Bool.{false, cond};
 ghost use mathlib.Core.List.{[]};
-ghost use lib.Dec.{leb, ltb};
+ghost use lib.Dec.{eqb, leb, ltb};
+ghost use lib.ListN.{length};
 ghost use Rattle.std.specs.Of.Vec.{vec-items};
 ghost use Rattle.std.specs.Vec.{made};
 ghost use Rattle.std.specs.declared.option.Option.the-variants.{None};
 ghost use Rattle.std.specs.declared.result.Result.the-variants.{Ok, Err};
 ghost use Rattle.diagram.specs.declared.refusals.Refusal.the-variants.{ArityOver, NoVariable};
 ghost use Rattle.cache.specs.declared.entries.Key.{Key};
-ghost use Rattle.engine.specs.Steps.{constant-step, variable-step, evaluate-step, map-after};
+ghost use Rattle.cache.specs.Tables.{table-places};
+ghost use Rattle.engine.specs.Laws.{Held-well};
+ghost use Rattle.engine.specs.Steps.{constant-step, variable-step, evaluate-step, refused-number, map-after};
 use crate::engines::Engine;
 use crate::growing::ROOM;
 use crate::states::State;
@@ -46,7 +49,7 @@ fn checked_mark(arity: u8, i: u32) -> Result<u8, Refusal>
 impl<C: Cache + Drop> Engine<C> {
     // A new engine of a dialect: no diamonds, and nothing in its cache. Only this call can want memory.
     pub fn new(heap: Global, profile: Profile, cache: C) -> Result<Engine<C>, AllocError>
-        ensures { λ r. ⌜ made r (λ e. (vec-items (e .state .diamonds) ≡ []) × (e .state .profile ≡ profile) × ((k : Key) → C·Cache .held (e .cache) (e .state .table) k ≡ None)) ⌝ }
+        ensures { λ r. ⌜ made r (λ e. (vec-items (e .state .diamonds) ≡ []) × (e .state .profile ≡ profile) × (length (table-places (e .state .table)) ≡ C·Cache .wants cache) × ((k : Key) → C·Cache .held (e .cache) (e .state .table) k ≡ None)) ⌝ }
     {
         let mut cache = cache;
         let diamonds = Vec::with_capacity(heap, ROOM)?;
@@ -59,6 +62,11 @@ impl<C: Cache + Drop> Engine<C> {
         };
         Ok(Engine { state, cache })
     }
+
+    // Says, to whoever calls it, what is true of every engine: its dialect is lawful and its diamonds are normal, of at most 20 marks, and at most 1,024.
+    pub fn law(&self)
+        ensures { λ _. ⌜ Held-well (now (self .entry) .state .profile .meaning) (vec-items (now (self .entry) .state .diamonds)) ⌝ }
+    {}
 
     // The dialect of the engine.
     pub fn profile(&self) -> Profile
@@ -84,8 +92,7 @@ impl<C: Cache + Drop> Engine<C> {
 
     // The constant of `arity` marks with this value.
     pub fn constant(&self, arity: u32, value: bool) -> Result<Edge, Refusal>
-        ensures answer { λ r. ⌜ r ≡ constant-step (now (self .entry) .state .profile .meaning) (vec-items (now (self .entry) .state .diamonds)) arity value .0 ⌝ }
-        ensures diamonds { λ _. ⌜ vec-items (now (self .entry) .state .diamonds) ≡ constant-step (now (self .entry) .state .profile .meaning) (vec-items (now (self .entry) .state .diamonds)) arity value .1 ⌝ }
+        ensures { λ r. ⌜ r ≡ constant-step (now (self .entry) .state .profile .meaning) arity value ⌝ }
     {
         let n = checked_arity(arity)?;
         Ok(self.state.profile.meaning().constant(n, value))
@@ -96,6 +103,7 @@ impl<C: Cache + Drop> Engine<C> {
         ensures answer { λ r. ⌜ r ≡ variable-step (now (self .entry) .state .profile .meaning) (vec-items (now (self .entry) .state .diamonds)) arity i .0 ⌝ }
         ensures diamonds { λ _. ⌜ vec-items (now (self .exit) .state .diamonds) ≡ variable-step (now (self .entry) .state .profile .meaning) (vec-items (now (self .entry) .state .diamonds)) arity i .1 ⌝ }
         ensures profile { λ _. ⌜ now (self .exit) .state .profile ≡ now (self .entry) .state .profile ⌝ }
+        ensures still { λ r. ⌜ (eqb (refused-number r) 7 ≡ false → (now (self .exit) .cache ≡ now (self .entry) .cache) × (now (self .exit) .state .table ≡ now (self .entry) .state .table)) ⌝ }
         ensures map { λ r. ⌜ ((k : Key) → C·Cache .held (now (self .exit) .cache) (now (self .exit) .state .table) k ≡ map-after r (C·Cache .held (now (self .entry) .cache) (now (self .entry) .state .table) k)) ⌝ }
     {
         let n = checked_arity(arity)?;

@@ -4,3 +4,4 @@ pub mod engines;
 mod growing;
 mod halving;
 pub mod states;
+pub mod theorems;

@@ -1,5 +1,6 @@
 use mathlib.Core.Path.{_≡_, refl, sym, _∙_, ap}
-use mathlib.Core.Bool.{cond}
+use mathlib.Core.Bool.{true, cond}
+use Prim.Native.Nat.{ℕ}
 use native.Mathlib.Omega.{arith}
 use lib.Dec.{eqb, leb, ltb}
 use Rattle.std.specs.Of.Vec.{vec-items}
@@ -12,7 +13,7 @@ use Rattle.diagram.specs.Rules.{variable}
 use Rattle.diagram.specs.Making.{insert}
 use Rattle.diagram.specs.Records.{store-of}
 use Rattle.cache.specs.declared.tables.Table.{Table}
-use Rattle.engine.specs.Steps.{Outcome, map-after}
+use Rattle.engine.specs.Steps.{Outcome, refused-number, map-after}
 use Rattle.engine.proofs.Marks.{variable-told, refused-full, passed}
 use Rattle.engine.proofs.engines.Engine.variable.Needs as need
 
@@ -28,6 +29,7 @@ returns-in-Ok g c =
       answer = ap (λ (x : Outcome). x .0) o;
       diamonds = ap (λ (x : Outcome). x .1) o;
       profile = c .in-Ok .ensures tt .profile;
+      still = λ _. (refl, c .in-Ok .ensures tt .table);
       map = λ k. ap (λ (t : Table). g .C·Cache .held (c .args .self .now .cache) t k) (c .in-Ok .ensures tt .table);
     }
 
@@ -46,5 +48,6 @@ returns-in-Err g c =
       answer = ap (λ (x : Outcome). x .0) o;
       diamonds = ap vec-items (c .forget .ensures .state .0) ∙ ap (λ (x : Outcome). x .1) o;
       profile = c .forget .ensures .state .1 ∙ c .in-Err .ensures tt .profile;
+      still = λ h. let q : eqb (refused-number {A = Edge} (Err (c .in-Err .refusal))) 7 ≡ true = ap (λ (x : Refusal). eqb (refused-number {A = Edge} (Err x)) 7) f in let z : _≡_ {A = ℕ} 0 1 = cc in absurd (omega arith);
       map = λ k. c .forget .ensures .map k ∙ ap (λ (x : Refusal). map-after {A = Edge} (Err x) (g .C·Cache .held (c .args .self .now .cache) (s .table) k)) (sym f);
     }

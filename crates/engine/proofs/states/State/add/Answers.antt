@@ -56,7 +56,7 @@ ghost-self c =
           subst (λ (xs : List Diamond). spelled-diamonds xs ≡ true) (sym is) (joined-spelled (s .profile .meaning) ds (c .args .diamond) (s .spelled) (c .pre)),
           (
             subst (λ (xs : List Diamond). normal (s .profile .meaning) (store-of xs) ≡ true) (sym is) (joined-normal (s .profile .meaning) ds (c .args .diamond) (s .spelled) (c .pre) (ap (λ (xs : List Diamond). number-of xs (c .args .diamond)) (sym (c .as-slice .ensures .value)) ∙ sym (c .in-rest .ensures tt)) (s .proper)),
-            (subst (λ (xs : List Diamond). shallow (store-of xs) ≡ true) (sym is) (joined-shallow (s .profile .meaning) ds (c .args .diamond) (s .spelled) (c .pre) (s .low)), tt),
+            (subst (λ (xs : List Diamond). shallow (store-of xs) ≡ true) (sym is) (joined-shallow (s .profile .meaning) ds (c .args .diamond) (s .spelled) (c .pre) (s .low)), (s .wide, tt)),
           ),
         ),
       ),
