@@ -125,19 +125,20 @@ module _ (D : Meaning) (ds : List DiamondRecord) (e : EdgeRecord) (n : ℕ) (a :
 
 -- Both halves, under the mark --
 
-pub picked-spelled : (b : Bool) (l h : EdgeRecord) → spelled-edge l ≡ true → spelled-edge h ≡ true → spelled-edge (cond b h l) ≡ true
-picked-spelled true l h p q = q
-picked-spelled false l h p q = p
-
-pub picked-there : (b : Bool) (l h : EdgeRecord) (x y : Edge) → edge-of l ≡ x → edge-of h ≡ y → edge-of (cond b h l) ≡ cond b y x
-picked-there true l h x y p q = q
-picked-there false l h x y p q = p
-
-pub half-flip : (D : Meaning) (s : Store) (e : EdgeRecord) (r : EdgeRecord) (high : Bool) →
+half-flip : (D : Meaning) (s : Store) (e : EdgeRecord) (r : EdgeRecord) (high : Bool) →
     edge-of r ≡ cond high (high-upright D s (edge-of e .word) (edge-of e .target)) (low-upright D s (edge-of e .word) (edge-of e .target)) →
     (e .negated ≡ true → edge-of (other-mark r) ≡ half-at high D s (edge-of e)) × (e .negated ≡ false → edge-of r ≡ half-at high D s (edge-of e))
 half-flip D s e r true p = (λ n. ap flip p ∙ ap (λ (b : Bool). flip-if b (high-upright D s (edge-of e .word) (edge-of e .target))) (sym n), λ n. p ∙ ap (λ (b : Bool). flip-if b (high-upright D s (edge-of e .word) (edge-of e .target))) (sym n))
 half-flip D s e r false p = (λ n. ap flip p ∙ ap (λ (b : Bool). flip-if b (low-upright D s (edge-of e .word) (edge-of e .target))) (sym n), λ n. p ∙ ap (λ (b : Bool). flip-if b (low-upright D s (edge-of e .word) (edge-of e .target))) (sym n))
+
+-- the half that was picked from the two, and the same with the other mark
+pub half-picked : (D : Meaning) (s : Store) (e : EdgeRecord) (low high r : EdgeRecord) (b : Bool) → (spelled-edge low ≡ true) × (spelled-edge high ≡ true) →
+    edge-of low ≡ low-upright D s (edge-of e .word) (edge-of e .target) → edge-of high ≡ high-upright D s (edge-of e .word) (edge-of e .target) → r ≡ cond b high low →
+    (spelled-edge r ≡ true)
+    × (e .negated ≡ true → edge-of (other-mark r) ≡ half-at b D s (edge-of e))
+    × (e .negated ≡ false → edge-of r ≡ half-at b D s (edge-of e))
+half-picked D s e low high r true h l u p = let f = half-flip D s e r true (ap edge-of p ∙ u) in (ap spelled-edge p ∙ h .1, f .0, f .1)
+half-picked D s e low high r false h l u p = let f = half-flip D s e r false (ap edge-of p ∙ l) in (ap spelled-edge p ∙ h .0, f .0, f .1)
 
 module _ (D : Meaning) (law : Lawful D) (ds : List DiamondRecord) (ns : normal D (store-of ds) ≡ true) (e : EdgeRecord) (n : ℕ) (a : Edge-of-arity D ds e n) (h : 0 < n) where
   halves : Halves D (store-of ds) (edge-of e)
@@ -156,21 +157,17 @@ module _ (D : Meaning) (law : Lawful D) (ds : List DiamondRecord) (ns : normal D
       let q = ev .2 in
       (omega arith, omega arith)
 
+  fit : (x : Edge) → Accepted D (store-of ds) x → arity (rule-of (store-of ds) x) ≡ n - 1 → (r : EdgeRecord) → spelled-edge r ≡ true → edge-of r ≡ x → Edge-of-arity D ds r (n - 1)
+  fit x b l r s p =
+      let m = acceptable-in D ds e (a .accepted) .short in
+      let k = arity-record (store-of ds) e ∙ a .marks in
+      let q : arity (rule-of (store-of ds) (edge-of r)) ≡ n - 1 = ap (λ (y : Edge). arity (rule-of (store-of ds) y)) p ∙ l in
+      let c : Acceptable D (store-of ds) (edge-of r) = record { accepted = subst (λ (y : Edge). Accepted D (store-of ds) y) (sym p) b; short = omega arith } in
+      record { accepted = accepted-met D ds r s c; marks = sym (arity-record (store-of ds) r) ∙ q }
+
   pub half-fit : (r : EdgeRecord) (high : Bool) → spelled-edge r ≡ true → edge-of r ≡ half-at high D (store-of ds) (edge-of e) → Edge-of-arity D ds r (n - 1)
-  half-fit r true s p =
-      let l = halves-arity .1 in
-      let m = acceptable-in D ds e (a .accepted) .short in
-      let k = arity-record (store-of ds) e ∙ a .marks in
-      let q : arity (rule-of (store-of ds) (edge-of r)) ≡ n - 1 = ap (λ (x : Edge). arity (rule-of (store-of ds) x)) p ∙ l in
-      let c : Acceptable D (store-of ds) (edge-of r) = record { accepted = subst (λ (x : Edge). Accepted D (store-of ds) x) (sym p) (halves .high-accepted); short = omega arith } in
-      record { accepted = accepted-met D ds r s c; marks = sym (arity-record (store-of ds) r) ∙ q }
-  half-fit r false s p =
-      let l = halves-arity .0 in
-      let m = acceptable-in D ds e (a .accepted) .short in
-      let k = arity-record (store-of ds) e ∙ a .marks in
-      let q : arity (rule-of (store-of ds) (edge-of r)) ≡ n - 1 = ap (λ (x : Edge). arity (rule-of (store-of ds) x)) p ∙ l in
-      let c : Acceptable D (store-of ds) (edge-of r) = record { accepted = subst (λ (x : Edge). Accepted D (store-of ds) x) (sym p) (halves .low-accepted); short = omega arith } in
-      record { accepted = accepted-met D ds r s c; marks = sym (arity-record (store-of ds) r) ∙ q }
+  half-fit r true s p = fit (high-half D (store-of ds) (edge-of e)) (halves .high-accepted) (halves-arity .1) r s p
+  half-fit r false s p = fit (low-half D (store-of ds) (edge-of e)) (halves .low-accepted) (halves-arity .0) r s p
 
   -- the value of the whole is that of the half which the first mark picks
   pub half-value : (r : EdgeRecord) (x : ℕ) → edge-of r ≡ half-at (eqb (x % 2) 1) D (store-of ds) (edge-of e) →

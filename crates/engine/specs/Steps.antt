@@ -34,8 +34,8 @@ inserted D ds f = kept ds (insert D (store-of ds) f)
 -- The calls --
 
 -- the constant b of n marks; no diamond changes
-abbrev pub constant-step : Meaning → ℕ → Bool → Result Edge Refusal
-constant-step D n b = cond (leb n 20) (Ok (constant-record D n b)) (Err ArityOver)
+abbrev pub constant-step : Meaning → List Diamond → ℕ → Bool → Outcome
+constant-step D ds n b = (cond (leb n 20) (Ok (constant-record D n b)) (Err ArityOver), ds)
 
 -- mark i of n marks
 abbrev pub variable-step : Meaning → List Diamond → ℕ → ℕ → Outcome

@@ -92,7 +92,8 @@ impl<C: Cache + Drop> Engine<C> {
 
     // The constant of `arity` marks with this value.
     pub fn constant(&self, arity: u32, value: bool) -> Result<Edge, Refusal>
-        ensures { λ r. ⌜ r ≡ constant-step (now (self .entry) .state .profile .meaning) arity value ⌝ }
+        ensures answer { λ r. ⌜ r ≡ constant-step (now (self .entry) .state .profile .meaning) (vec-items (now (self .entry) .state .diamonds)) arity value .0 ⌝ }
+        ensures diamonds { λ _. ⌜ vec-items (now (self .entry) .state .diamonds) ≡ constant-step (now (self .entry) .state .profile .meaning) (vec-items (now (self .entry) .state .diamonds)) arity value .1 ⌝ }
     {
         let n = checked_arity(arity)?;
         Ok(self.state.profile.meaning().constant(n, value))
