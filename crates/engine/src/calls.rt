@@ -3,7 +3,7 @@ ghost use mathlib.Core.Path.{_≡_};
 ghost use mathlib.Core.Bool.{false, cond};
 ghost use mathlib.Core.List.{[]};
 ghost use lib.Dec.{eqb, leb, ltb};
-ghost use lib.ListN.{length};
+ghost use lib.ListN.{length, replicate};
 ghost use Rattle.std.specs.Of.Vec.{vec-items};
 ghost use Rattle.std.specs.Vec.{made};
 ghost use Rattle.std.specs.declared.option.Option.the-variants.{None};
@@ -46,6 +46,13 @@ fn checked_mark(arity: u8, i: u32) -> Result<u8, Refusal>
     Ok(i as u8)
 }
 
+// An empty table with as many places as the cache wants.
+fn new_table<C: Cache>(heap: Global, cache: &C) -> Result<Table, AllocError>
+    ensures { λ r. ⌜ made r (λ t. table-places t ≡ replicate (C·Cache .wants (now (cache .entry))) None) ⌝ }
+{
+    Table::new(heap, cache.places())
+}
+
 impl<C: Cache + Drop> Engine<C> {
     // A new engine of a dialect: no diamonds, and nothing in its cache. Only this call can want memory.
     pub fn new(heap: Global, profile: Profile, cache: C) -> Result<Engine<C>, AllocError>
@@ -53,7 +60,7 @@ impl<C: Cache + Drop> Engine<C> {
     {
         let mut cache = cache;
         let diamonds = Vec::with_capacity(heap, ROOM)?;
-        let mut table = Table::new(heap, cache.places())?;
+        let mut table = new_table(heap, &cache)?;
         cache.forget(&mut table);
         let state = State {
             profile,

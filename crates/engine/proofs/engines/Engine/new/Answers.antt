@@ -11,14 +11,13 @@ pub ghost-state : need.ghost-state
 ghost-state g c =
     let t = c .in-Continue-table .table in
     let l : length (table-places (c .forget .last .table)) ≡ length (table-places t) = ap length (c .forget .ensures .empty) ∙ length-replicate (length (table-places t)) None in
-    let m : length (table-places t) ≡ c .places .result = ap length (c .in-Continue-table .ensures tt) ∙ length-replicate (c .places .result) None in
+    let m : length (table-places t) ≡ g .C·Cache .wants (c .args .cache) = ap length (c .in-Continue-table .ensures tt) ∙ length-replicate (g .C·Cache .wants (c .args .cache)) None in
     let w = g .C·Cache·met .roomy (c .args .cache) in
-    let p = c .places .ensures in
     (search needs, (search needs, (search needs, (search needs, (search needs, (omega arith, tt))))))
 
 pub returns : need.returns
 returns g c =
     let t = c .in-Continue-table .table in
     let l : length (table-places (c .forget .last .table)) ≡ length (table-places t) = ap length (c .forget .ensures .empty) ∙ length-replicate (length (table-places t)) None in
-    let m : length (table-places t) ≡ c .places .result = ap length (c .in-Continue-table .ensures tt) ∙ length-replicate (c .places .result) None in
-    (search needs, refl, l ∙ m ∙ c .places .ensures, c .forget .ensures .none)
+    let m : length (table-places t) ≡ g .C·Cache .wants (c .args .cache) = ap length (c .in-Continue-table .ensures tt) ∙ length-replicate (g .C·Cache .wants (c .args .cache)) None in
+    (search needs, refl, l ∙ m, c .forget .ensures .none)
