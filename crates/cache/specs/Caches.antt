@@ -1,7 +1,6 @@
 -- What a note leaves in a cache and in its table.
 use mathlib.Core.Path.{_≡_}
 use mathlib.Core.Bool.{Bool, true}
-use mathlib.Core.List.{List}
 use mathlib.Core.Logic.{_⊎_}
 use Prim.Native.Nat.{_<_}
 use lib.ListN.{length}

@@ -1,4 +1,5 @@
 // The cache that holds nothing.
+ghost use mathlib.Core.Path.{_≡_};
 ghost use mathlib.Core.Bool.{false};
 ghost use Rattle.std.specs.declared.option.Option.the-variants.{None};
 use crate::caches::Cache;
@@ -36,4 +37,11 @@ pub impl Cache for Blank as BlankCache {
     fn forget(&mut self, table: &mut Table) {
         table.clear();
     }
+}
+
+// Whether the blank cache keeps what it notes, by its constant.
+pub fn blank_keeps() -> bool
+    ensures { λ r. ⌜ r ≡ false ⌝ }
+{
+    Blank::KEEPS
 }

@@ -1,21 +1,21 @@
 -- The tests of edges and stores, read and met.
-use mathlib.Core.Path.{_≡_, refl, sym, _∙_, ap, subst}
-use mathlib.Core.Logic.{_≢_, _↔_}
+use mathlib.Core.Path.{_≡_, refl, sym, ap, subst}
+use mathlib.Core.Logic.{_≢_}
 use mathlib.Core.Bool.{Bool, true, false, not, cond, _&&_}
 use mathlib.Core.List.{List, [], _∷_}
 use Rattle.std.specs.declared.option.Option.{Option}
 use Rattle.std.specs.declared.option.Option.the-variants.{None, Some}
 use Rattle.diagram.specs.Rules.{arity}
 use Rattle.diagram.specs.declared.letters.Letter.{Letter}
-use Rattle.diagram.specs.Edges.{Target, terminal, diamond, Edge, Diamond, Store, same, rule-of}
+use Rattle.diagram.specs.Edges.{Target, terminal, diamond, Edge, Diamond, Store, rule-of}
 use Rattle.diagram.specs.declared.meanings.Meaning.{Meaning}
 use Rattle.diagram.specs.Making.{choose, find, upright, low-upright, high-upright}
 use Rattle.diagram.specs.Acceptance.{Within, Spelled, Accepted, Addable, Normal, inside, usual, gives, nothing, well-spelled, accepts, admits, normal}
 use Rattle.diagram.proofs.Notions.{Accepts-right}
 use Rattle.diagram.specs.Theorems.{Normal-tested}
-use Prim.Native.Nat.{ℕ, _<_}
+use Prim.Native.Nat.{ℕ}
 use native.Mathlib.Omega.{arith}
-use lib.Dec.{T, eqb, ltb, ltb→lt, lt→ltb}
+use lib.Dec.{eqb, ltb, ltb→lt, lt→ltb}
 use lib.ListN.{length}
 use Rattle.diagram.proofs.Laws.{and-left, and-right, both, true-T, T-true, eqb-eq, eqb-same, same-refl, same-eq}
 

@@ -2,8 +2,6 @@
 use mathlib.Core.Path.{_≡_, refl, sym, _∙_, ap}
 use mathlib.Core.Bool.{Bool, true, false, cond}
 use mathlib.Core.List.{List, [], _∷_}
-use Rattle.std.specs.declared.option.Option.{Option}
-use Rattle.std.specs.declared.option.Option.the-variants.{None, Some}
 use Rattle.diagram.specs.Edges.{Target, terminal, diamond, Diamond, Store, diamond-at}
 use Rattle.diagram.specs.declared.meanings.Meaning.{Meaning}
 use Rattle.diagram.specs.Acceptance.{Within, Normal}
@@ -12,7 +10,7 @@ use Rattle.diagram.proofs.Notions.{Lower, Visit-step}
 use Prim.Native.Nat.{ℕ, _<_}
 use native.Mathlib.Omega.{arith}
 use native.Mathlib.Nat.{not-suc-le-zero}
-use lib.Dec.{eqb, ltb}
+use lib.Dec.{eqb}
 use lib.ListN.{length}
 use Rattle.diagram.proofs.Split.{eqb-less, neqb-ne}
 

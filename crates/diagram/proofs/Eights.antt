@@ -1,18 +1,17 @@
 -- Octal digits: powers of 8, and one letter more or less on a word.
-use mathlib.Core.Path.{_≡_, refl, sym, ap, _∙_}
+use mathlib.Core.Path.{_≡_, refl, ap, _∙_}
 use mathlib.Core.Bool.{Bool, true, false, _&&_, cond}
-use mathlib.Core.List.{List, [], _∷_}
+use mathlib.Core.List.{_∷_}
 use Prim.Native.Nat.{ℕ, zero, suc, _+_, _-_, _*_, _/_, _%_, _^_, _<_, _≤_}
-use native.Mathlib.Nat.{pow-le-pow-right, pow-suc}
+use native.Mathlib.Nat.{pow-le-pow-right}
 use native.Mathlib.Omega.{arith}
-use lib.Dec.{eqb, leb, ltb}
-use Rattle.std.specs.declared.option.Option.{Option}
+use lib.Dec.{leb}
 use Rattle.std.specs.declared.option.Option.the-variants.{None, Some}
-use Rattle.std.proofs.shelf.Bits.{div-mul-add, mod-mul-add, mul-add-lt}
+use Rattle.std.proofs.shelf.Bits.{div-mul-add, mod-mul-add}
 use Rattle.std.proofs.shelf.Tests.{lt-ltb, le-leb}
 use Rattle.diagram.specs.declared.letters.Letter.{Letter}
 use Rattle.diagram.specs.Letters.{letter-code, letter-of, letter-with}
-use Rattle.diagram.specs.Words.{letters-of, spells, peeled, pushed}
+use Rattle.diagram.specs.Words.{letters-of, spells, peeled}
 use Rattle.diagram.proofs.Laws.{letter-of-code}
 use Rattle.diagram.proofs.Spelling.{code-most}
 
@@ -37,13 +36,6 @@ letter-some d c = go (leb d 5) refl
     go : (b : Bool) → leb d 5 ≡ b → cond b (Some (letter-of d)) None ≡ Some c → (leb d 5 ≡ true) × (letter-of d ≡ c)
     go true e p = (e, cc)
     go false e p = let z : _≡_ {A = ℕ} 0 1 = cc in absurd (omega arith)
-
-pub letter-none : (d : ℕ) → letter-with d ≡ None → leb d 5 ≡ false
-letter-none d = go (leb d 5) refl
-  where
-    go : (b : Bool) → leb d 5 ≡ b → cond b (Some (letter-of d)) None ≡ None → leb d 5 ≡ false
-    go true e p = let z : _≡_ {A = ℕ} 0 1 = cc in absurd (omega arith)
-    go false e p = e
 
 pub peel-some : (n x : ℕ) (c : Letter) → 0 < n → n ≤ 20 → letter-with (x / 8 ^ (n - 1)) ≡ Some c →
     (peeled n x ≡ Some (c, x % 8 ^ (n - 1))) × (letters-of n x ≡ c ∷ letters-of (n - 1) (x % 8 ^ (n - 1))) × (spells n x ≡ spells (n - 1) (x % 8 ^ (n - 1)))
@@ -77,10 +69,3 @@ push-some n x c h =
     let l = letter-of-code c in
     let k = le-leb (letter-code c) 5 (code-most c) in
     (simp (p, d, m, l) at s, simp (p, d, m, k) at t)
-
-pub push-less : (n x : ℕ) (c : Letter) → n < 20 → x < 8 ^ n → letter-code c * 8 ^ n + x < 2 ^ 64
-push-less n x c l h =
-    let i : n ≤ 20 = omega arith in
-    let k = code-most c in
-    let j : letter-code c < 8 = omega arith in
-    omega (arith, mul-add-lt (letter-code c) (8 ^ n) x 8 j h, eight-le n i)

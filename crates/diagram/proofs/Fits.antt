@@ -1,29 +1,28 @@
 -- Where making chooses a letter, the halves are those that the letter stands for; so the edge is accepted, and means what the halves mean.
 use mathlib.Core.Path.{_≡_, refl, sym, _∙_, ap, ap₂, subst}
-use mathlib.Core.Logic.{_≢_, _⊎_, inl, inr}
-use mathlib.Core.Bool.{Bool, true, false, not, cond, _&&_, Bool·beq}
-use mathlib.Core.List.{List, [], _∷_, _++_}
+use mathlib.Core.Logic.{_⊎_, inl, inr}
+use mathlib.Core.Bool.{Bool, true, false, not, cond, _&&_}
+use mathlib.Core.List.{List, [], _∷_}
 use Rattle.std.specs.declared.option.Option.{Option}
 use Rattle.std.specs.declared.option.Option.the-variants.{None, Some}
-use Rattle.diagram.specs.Rules.{Rule, constant, _⋆_, arity, negate, full}
+use Rattle.diagram.specs.Rules.{constant, _⋆_, arity}
 use Rattle.diagram.specs.declared.letters.Letter.{Letter}
 use Rattle.diagram.specs.declared.letters.Letter.the-variants.{U, X, C00, C01, C10, C11}
-use Rattle.diagram.specs.Letters.{on, partner, letter-code}
-use Rattle.diagram.specs.Edges.{Target, terminal, diamond, Edge, edge, Store, flip, turned, put, sign, spell, foot, sense, diamond-rule, rule-of, same}
+use Rattle.diagram.specs.Letters.{partner, letter-code}
+use Rattle.diagram.specs.Edges.{Target, terminal, diamond, Edge, edge, Store, flip, put, spell, foot, diamond-rule, rule-of, same}
 use Rattle.diagram.specs.declared.letters.Kind.{Kind}
 use Rattle.diagram.specs.declared.letters.Kind.the-variants.{AllZero, AllOne, Mixed}
 use Rattle.diagram.specs.Dialects.{look, Lawful, all-u, constantly, flips, kind-at, kind, look-at, low-kind, high-kind, opposed, is, fits, has-letter, answer-at}
 use Rattle.diagram.specs.declared.meanings.Meaning.{Meaning}
 use Rattle.diagram.specs.Making.{flat, source, written, choose, low-of, high-of, upright}
-use Rattle.diagram.specs.Acceptance.{Spelled, Accepted}
-use Rattle.diagram.specs.declared.letters.Look.{Look}
-use Prim.Native.Nat.{ℕ, zero, suc, _<_}
+use Rattle.diagram.specs.Acceptance.{Accepted}
+use Prim.Native.Nat.{ℕ, suc}
 use native.Mathlib.Omega.{arith}
-use lib.Dec.{T, eqb}
+use lib.Dec.{eqb}
 use lib.ListN.{length, replicate}
-use Rattle.diagram.proofs.Laws.{not-not, arity-negate, arity-on, arity-sign, flip-flip, sense-flip, sense-put, and-left, and-right, letter-eq, same-eq}
+use Rattle.diagram.proofs.Laws.{arity-negate, arity-on, arity-sign, flip-flip, sense-put, and-left, and-right, letter-eq, same-eq}
 use Rattle.diagram.proofs.Signs.{flip?, choose-flip}
-use Rattle.diagram.proofs.Split.{accepted-flip, flat-negating, flat-plain, flat-flip, letter-rule}
+use Rattle.diagram.proofs.Split.{flat-negating, flat-plain, flat-flip, letter-rule}
 
 -- An edge that is seen to be constant is the constant edge --
 

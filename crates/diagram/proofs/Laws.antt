@@ -1,25 +1,20 @@
 -- The laws of rules, letters and signs, and of the tests.
 use mathlib.Core.Path.{_≡_, refl, sym, _∙_, ap, ap₂, subst}
 use mathlib.Core.Bool.{Bool, true, false, not, cond, _&&_, Bool·beq}
-use mathlib.Core.List.{List, [], _∷_, _++_}
-use Rattle.std.specs.declared.option.Option.{Option}
-use Rattle.std.specs.declared.option.Option.the-variants.{None, Some}
+use mathlib.Core.List.{List, [], _∷_}
 use Rattle.diagram.specs.Rules.{Rule, constant, _⋆_, arity, negate, full}
 use Rattle.diagram.specs.declared.letters.Letter.{Letter}
 use Rattle.diagram.specs.declared.letters.Letter.the-variants.{U, X, C00, C01, C10, C11}
 use Rattle.diagram.specs.Letters.{on, partner, letter-code, letter-of}
-use Rattle.diagram.specs.Edges.{Target, terminal, diamond, Edge, edge, Diamond, pair, Store, flip, turned, put, sign, spell, foot, sense, diamond-rule, rule-of, same-word, same-target, same, same-diamond}
+use Rattle.diagram.specs.Edges.{Target, terminal, diamond, Edge, edge, Diamond, pair, flip, turned, put, sign, spell, foot, sense, same-word, same-target, same, same-diamond}
 use Rattle.diagram.specs.declared.letters.Kind.{Kind}
 use Rattle.diagram.specs.declared.letters.Kind.the-variants.{AllZero, AllOne, Mixed}
 use Rattle.diagram.specs.Dialects.{all-u, constantly, flips, kind-at, kind, look-at, look, turn}
-use Rattle.diagram.specs.declared.letters.Look.{Look}
-use Rattle.diagram.specs.declared.letters.Look.the-variants.{ZeroOne, OneZero, ZeroOther, OneOther, OtherZero, OtherOne, Opposite, Plain}
 use Rattle.diagram.specs.declared.meanings.Meaning.{Meaning}
 use Rattle.diagram.specs.Making.{flat}
-use Prim.Native.Nat.{ℕ, zero, suc, _<_}
-use native.Mathlib.Omega.{arith}
+use Prim.Native.Nat.{ℕ, zero, suc}
 use lib.Dec.{T, eqb, eqb→eq, eqb-refl}
-use lib.ListN.{length, replicate}
+use lib.ListN.{replicate}
 
 pub not-not : (b : Bool) → not (not b) ≡ b
 not-not true = refl
@@ -101,9 +96,6 @@ sense-put r c e = sign-on (e .negated) c (spell (e .word) (foot r (e .target)))
 pub arity-sign : (n : Bool) (f : Rule) → arity (sign n f) ≡ arity f
 arity-sign true f = arity-negate f
 arity-sign false f = refl
-
-flat-at : (m : Bool) (n : ℕ) (b : Bool) → Edge
-flat-at m n b = cond m (edge b (replicate n U) (terminal false)) (edge false (replicate n U) (terminal b))
 
 sign-full : (n : ℕ) (b : Bool) → sign b (full n false) ≡ full n b
 sign-full n true = negate-full n false

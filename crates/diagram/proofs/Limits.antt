@@ -1,21 +1,18 @@
--- Edges of at most 20 variables, and stores whose diamonds have no more.
-use mathlib.Core.Path.{_≡_, refl, sym, _∙_, ap, subst}
-use mathlib.Core.Bool.{Bool, true, false, cond, _&&_}
-use mathlib.Core.List.{List, [], _∷_}
+-- Edges of at most 20 marks, and stores whose diamonds have no more.
+use mathlib.Core.Path.{_≡_, _∙_, ap}
+use mathlib.Core.Bool.{Bool, true, false, cond}
 use Rattle.std.specs.declared.option.Option.{Option}
 use Rattle.std.specs.declared.option.Option.the-variants.{None, Some}
-use Rattle.diagram.specs.Rules.{Rule, constant, _⋆_, arity, Even}
-use Rattle.diagram.specs.Edges.{Edge, Diamond, pair, Store, flip, diamond-rule, rule-of}
+use Rattle.diagram.specs.Rules.{constant, _⋆_, arity}
+use Rattle.diagram.specs.Edges.{Edge, pair, Store, flip, diamond-rule, rule-of}
 use Rattle.diagram.specs.declared.meanings.Meaning.{Meaning}
-use Rattle.diagram.specs.Dialects.{Lawful}
-use Rattle.diagram.specs.Making.{choose, find, Made, seat, add, flipped, make-by, make, insert}
-use Rattle.diagram.specs.Acceptance.{Accepted, Acceptable, Normal, Shallow, Sound, accepts, acceptable}
+use Rattle.diagram.specs.Making.{choose, find, seat, add, flipped, make-by, make, insert}
+use Rattle.diagram.specs.Acceptance.{Shallow, accepts}
 use Rattle.diagram.specs.Theorems.{Acceptable-told, Acceptable-tested}
 use Rattle.diagram.proofs.Notions.{Insert-shallow}
-use Prim.Native.Nat.{ℕ, zero, suc, _<_, _≤_}
+use Prim.Native.Nat.{ℕ, _≤_}
 use native.Mathlib.Omega.{arith}
 use lib.Dec.{leb, leb→le, le→leb}
-use lib.ListN.{length}
 use Rattle.diagram.proofs.Laws.{and-left, and-right, both, true-T, T-true, arity-negate, sense-flip}
 use Rattle.diagram.proofs.Sound.{rule-grown, insert-sound}
 use Rattle.diagram.proofs.Told.{accepted-told}

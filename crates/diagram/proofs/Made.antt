@@ -1,16 +1,14 @@
 -- Making by the program's edges and diamonds: a letter set, a diamond looked up, a store with one diamond more.
 use mathlib.Core.Path.{_≡_, refl, sym, _∙_, ap, ap₂, subst}
-use mathlib.Core.Logic.{_↔_}
-use mathlib.Core.Bool.{Bool, true, false, not, cond, _&&_}
+use mathlib.Core.Bool.{true, cond, _&&_}
 use mathlib.Core.List.{List, [], _∷_, _++_, map, reverse, reverse-cons}
-use Prim.Native.Nat.{ℕ, zero, suc, _+_, _*_, _^_, _<_, _≤_}
+use Prim.Native.Nat.{ℕ, suc, _+_, _*_, _^_, _<_}
 use native.Mathlib.Omega.{arith}
-use lib.Dec.{eqb, leb, ltb}
-use lib.ListN.{length, length-map, length-reverse}
-use Rattle.std.proofs.shelf.Lists.{reverse-reverse, map-append}
+use lib.Dec.{leb}
+use lib.ListN.{length, length-map}
+use Rattle.std.proofs.shelf.Lists.{map-append}
 use Rattle.std.proofs.shelf.Tests.{and-parts, and-from, lt-ltb, le-leb, leb-true}
-use Rattle.std.specs.declared.option.Option.{Option}
-use Rattle.std.specs.declared.option.Option.the-variants.{None, Some}
+use Rattle.std.specs.declared.option.Option.the-variants.{Some}
 use Rattle.diagram.specs.declared.letters.Letter.{Letter}
 use Rattle.diagram.specs.declared.meanings.Meaning.{Meaning}
 use Rattle.diagram.specs.declared.edges.Edge.{Edge as EdgeRecord}
@@ -18,15 +16,15 @@ use Rattle.diagram.specs.declared.edges.Diamond.{Diamond as DiamondRecord}
 use Rattle.diagram.specs.Rules.{Rule, _⋆_, arity, Even}
 use Rattle.diagram.specs.Letters.{letter-code}
 use Rattle.diagram.specs.declared.letters.Letter.the-variants.{U}
-use Rattle.diagram.specs.Words.{numeral, letters-of, Spells, spells, pushed}
-use Rattle.diagram.specs.Edges.{Edge, edge, Diamond, pair, Store, put, turned, same, same-diamond, rule-of, diamond-at}
+use Rattle.diagram.specs.Words.{numeral, letters-of, spells}
+use Rattle.diagram.specs.Edges.{Edge, Store, put, turned, same-diamond, rule-of}
 use Rattle.diagram.specs.Dialects.{Lawful}
-use Rattle.diagram.specs.Making.{find, Made, make, choose, written, source, insert, low-of, high-of}
-use Rattle.diagram.specs.Acceptance.{Accepted, Normal, Shallow, shallow, Sound}
-use Rattle.diagram.specs.Records.{edge-of, diamond-of, store-of, edge-record, diamond-record, diamonds-of, spelled-edge, spelled-diamonds, same-record, same-diamond-record, number-behind, number-of, with-letter, letter-for}
+use Rattle.diagram.specs.Making.{find, Made, make, insert}
+use Rattle.diagram.specs.Acceptance.{Normal, Shallow, shallow}
+use Rattle.diagram.specs.Records.{edge-of, diamond-of, store-of, edge-record, spelled-edge, spelled-diamonds, same-diamond-record, number-behind, number-of, with-letter}
 use Rattle.diagram.proofs.Laws.{same-refl}
-use Rattle.diagram.proofs.Spelling.{numeral-less, words-written, words-read}
-use Rattle.diagram.proofs.Recorded.{alike, edge-made, edge-back, edge-told, spells-read, same-alike, letter, letter-alike, choose-letter, target-back}
+use Rattle.diagram.proofs.Spelling.{numeral-less, words-written}
+use Rattle.diagram.proofs.Recorded.{edge-made, spells-read, same-alike, target-back}
 use Rattle.diagram.proofs.Sound.{insert-sound}
 use Rattle.diagram.proofs.Main.{insert-back}
 

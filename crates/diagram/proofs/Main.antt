@@ -1,9 +1,7 @@
 -- Inserting what an accepted edge means gives the store and the edge back; so accepted edges that mean the same are the same.
-use mathlib.Core.Path.{_≡_, refl, sym, _∙_, ap, ap₂, subst}
+use mathlib.Core.Path.{_≡_, refl, sym, _∙_, ap}
 use mathlib.Core.Logic.{_⊎_, inl, inr}
-use mathlib.Core.Bool.{Bool, true, false}
-use Prim.Native.Nat.{ℕ}
-use native.Mathlib.Omega.{arith}
+use mathlib.Core.Bool.{Bool}
 use Rattle.diagram.specs.Rules.{Rule, constant, _⋆_}
 use Rattle.diagram.specs.Edges.{Edge, Store, rule-of}
 use Rattle.diagram.specs.declared.meanings.Meaning.{Meaning}

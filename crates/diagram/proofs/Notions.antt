@@ -1,7 +1,7 @@
 -- Notions that proofs share and no contract cites.
 use mathlib.Core.Path.{_≡_}
 use mathlib.Core.Logic.{_⊎_, _↔_}
-use mathlib.Core.Bool.{Bool, true, false, cond}
+use mathlib.Core.Bool.{true, cond}
 use mathlib.Core.List.{List, [], _∷_}
 use Prim.Native.Nat.{ℕ, zero, suc, _<_, _≤_}
 use lib.Dec.{eqb}
@@ -10,12 +10,12 @@ use Rattle.diagram.specs.declared.letters.Letter.{Letter}
 use Rattle.diagram.specs.declared.meanings.Meaning.{Meaning}
 use Rattle.diagram.specs.Rules.{Rule, constant, _⋆_, arity, Even}
 use Rattle.diagram.specs.Letters.{on}
-use Rattle.diagram.specs.Words.{numeral, letters-of, Spells, spells}
-use Rattle.diagram.specs.Edges.{Target, terminal, diamond, diamond-at, Edge, edge, Diamond, pair, Store, rule-of}
+use Rattle.diagram.specs.Words.{numeral, letters-of, Spells}
+use Rattle.diagram.specs.Edges.{Target, terminal, diamond, diamond-at, Edge, edge, pair, Store, rule-of}
 use Rattle.diagram.specs.Dialects.{has-letter, Lawful}
 use Rattle.diagram.specs.Making.{Made, make, insert, low-half, high-half}
 use Rattle.diagram.specs.Acceptance.{Accepted, accepts, Normal, Shallow, Within}
-use Rattle.diagram.specs.Walks.{walk, met, visit, reached}
+use Rattle.diagram.specs.Walks.{met, visit, reached}
 
 -- the halves of the edge e are what they should be, and making gives e back from them
 pub record Halves (D : Meaning) (s : Store) (e : Edge) : Type 0 where
@@ -87,10 +87,6 @@ Halves-right = (D : Meaning) → Lawful D → (s : Store) → Normal D s → (e 
 -- what a walk from an accepted edge meets, numbered in that order, is what inserting its rule into an empty store gives
 abbrev pub Walk-is-insert : Type 0
 Walk-is-insert = (D : Meaning) → Lawful D → (s : Store) → Normal D s → (e : Edge) → Accepted D s e → renumbered s e ≡ insert D [] (rule-of s e)
-
--- a walk meets no more diamonds than there are
-abbrev pub Walk-short : Type 0
-Walk-short = (D : Meaning) → Lawful D → (s : Store) → Normal D s → (e : Edge) → Accepted D s e → length (walk s e) ≤ length s
 
 -- one step of a walk, from the diamond k of diamonds that go down
 abbrev pub Visit-step : Type 0

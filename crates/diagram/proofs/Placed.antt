@@ -1,26 +1,24 @@
 -- Diamonds in a list, the oldest first: what each means, by those before it.
-use mathlib.Core.Path.{_≡_, refl, sym, _∙_, ap, ap₂, subst}
+use mathlib.Core.Path.{_≡_, refl, sym, _∙_, ap, subst}
 use mathlib.Core.Bool.{Bool, true, false, cond}
-use mathlib.Core.List.{List, [], _∷_, _++_, map, reverse, reverse-cons}
+use mathlib.Core.List.{List, [], _∷_, _++_, reverse, reverse-cons}
 use Prim.Native.Nat.{ℕ, zero, suc, _+_, _-_, _%_, _^_, _<_, _≤_}
 use native.Mathlib.Omega.{arith}
 use lib.Dec.{eqb}
-use lib.ListN.{length, getD, take, replicate, length-reverse}
+use lib.ListN.{length, getD, take, length-reverse}
 use lib.Seq.{take-all, length-take-le}
 use Rattle.std.specs.declared.option.Option.the-variants.{Some}
 use Rattle.std.proofs.shelf.Lists.{reverse-reverse, reverse-append, getD-append-left, getD-push, take-append-le, take-more}
 use Rattle.std.proofs.shelf.Tests.{ne-eqb}
-use Rattle.diagram.specs.declared.meanings.Meaning.{Meaning}
 use Rattle.diagram.specs.declared.edges.Edge.{Edge as EdgeRecord}
 use Rattle.diagram.specs.declared.edges.Diamond.{Diamond as DiamondRecord}
-use Rattle.diagram.specs.declared.edges.Target.{Target as TargetRecord}
 use Rattle.diagram.specs.declared.edges.Target.the-variants.{Zero}
-use Rattle.diagram.specs.Rules.{Rule, _⋆_, arity}
-use Rattle.diagram.specs.Words.{numeral, letters-of}
-use Rattle.diagram.specs.Edges.{Target, Store, Diamond, diamond, diamond-rule, diamond-at, rule-of, foot}
-use Rattle.diagram.specs.Records.{target-of, edge-of, diamond-of, store-of, same-diamond-record, number-behind, number-of}
-use Rattle.diagram.proofs.Laws.{eqb-eq, eqb-same}
-use Rattle.diagram.proofs.Split.{neqb-ne, eqb-less}
+use Rattle.diagram.specs.Rules.{_⋆_, arity}
+use Rattle.diagram.specs.Words.{letters-of}
+use Rattle.diagram.specs.Edges.{Store, diamond-rule, rule-of, foot}
+use Rattle.diagram.specs.Records.{target-of, edge-of, store-of, same-diamond-record, number-behind, number-of}
+use Rattle.diagram.proofs.Laws.{eqb-eq}
+use Rattle.diagram.proofs.Split.{neqb-ne}
 use Rattle.diagram.proofs.Bridge.{arity-edge}
 use Rattle.diagram.proofs.Recorded.{store-push, store-length}
 

@@ -1,8 +1,8 @@
 -- The program's edges and diamonds, and what they stand for, there and back.
 use mathlib.Core.Path.{_≡_, refl, sym, _∙_, ap, ap₂, subst}
-use mathlib.Core.Bool.{Bool, true, false, not, cond, _&&_, Bool·beq}
+use mathlib.Core.Bool.{Bool, true, false, cond, _&&_, Bool·beq}
 use mathlib.Core.List.{List, [], _∷_, _++_, map, reverse, reverse-cons}
-use Prim.Native.Nat.{ℕ, zero, suc, _+_, _*_, _/_, _%_, _^_, _<_, _≤_}
+use Prim.Native.Nat.{ℕ, zero, suc, _/_, _%_, _^_}
 use native.Mathlib.Omega.{arith}
 use native.Mathlib.Nat.{zero-div, zero-mod}
 use lib.Dec.{eqb, leb, ltb}
@@ -18,10 +18,9 @@ use Rattle.diagram.specs.declared.edges.Target.{Target as TargetRecord}
 use Rattle.diagram.specs.declared.edges.Target.the-variants.{Zero, One, Diamond as DiamondNumber}
 use Rattle.diagram.specs.declared.edges.Edge.{Edge as EdgeRecord}
 use Rattle.diagram.specs.declared.edges.Diamond.{Diamond as DiamondRecord}
-use Rattle.diagram.specs.Letters.{letter-code, letter-of}
+use Rattle.diagram.specs.Letters.{letter-code}
 use Rattle.diagram.specs.Words.{numeral, letters-of, Spells, spells}
-use Rattle.diagram.specs.Edges.{Target, terminal, diamond, Edge, edge, Diamond, pair, Store, flip, turned, put, same, same-word, same-target, same-diamond}
-use Rattle.diagram.specs.declared.letters.Kind.{Kind}
+use Rattle.diagram.specs.Edges.{Target, terminal, diamond, Edge, edge, Diamond, pair, Store, turned, put, same, same-word, same-target}
 use Rattle.diagram.specs.Dialects.{all-u, kind-at, kind, look-at, look, answer-at, same-answer}
 use Rattle.diagram.specs.Making.{flat, source, written, choose, low-of, high-of, upright}
 use Rattle.diagram.specs.Acceptance.{inside, gives}

@@ -1,16 +1,15 @@
 -- Making commutes with negation, in a lawful dialect that negates.
-use mathlib.Core.Path.{_≡_, refl, sym, _∙_, ap, ap₂, subst}
+use mathlib.Core.Path.{_≡_, refl, sym, _∙_, ap, ap₂}
 use mathlib.Core.Bool.{Bool, true, false, not, cond}
-use mathlib.Core.List.{List, [], _∷_, _++_}
 use Rattle.std.specs.declared.option.Option.{Option}
 use Rattle.std.specs.declared.option.Option.the-variants.{None, Some}
 use Rattle.diagram.specs.declared.letters.Letter.{Letter}
 use Rattle.diagram.specs.declared.letters.Letter.the-variants.{U, X, C00, C01, C10, C11}
 use Rattle.diagram.specs.Letters.{partner}
 use Rattle.diagram.specs.Edges.{Edge, flip, put, same, Store}
-use Rattle.diagram.specs.Dialects.{look, turn, Lawful, partners, answer-at}
+use Rattle.diagram.specs.Dialects.{look, Lawful, partners, answer-at}
 use Rattle.diagram.specs.declared.meanings.Meaning.{Meaning}
-use Rattle.diagram.specs.Making.{source, written, choose, find, add, Made, flipped, make-by, make}
+use Rattle.diagram.specs.Making.{source, written, choose, add, Made, flipped, make-by, make}
 use Rattle.diagram.proofs.Laws.{flip-flip, put-flip, same-flip, look-flip}
 
 abbrev pub flip? : Option Edge → Option Edge

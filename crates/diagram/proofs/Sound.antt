@@ -1,22 +1,20 @@
 -- Making and inserting keep a store normal, only add diamonds, and give an accepted edge that means what it should.
 use mathlib.Core.Path.{_≡_, refl, sym, _∙_, ap, ap₂, subst}
-use mathlib.Core.Logic.{_≢_, _⊎_, inl, inr}
 use mathlib.Core.Bool.{Bool, true, false, not, cond}
 use mathlib.Core.List.{List, [], _∷_, _++_, append-assoc}
 use Rattle.std.specs.declared.option.Option.{Option}
 use Rattle.std.specs.declared.option.Option.the-variants.{None, Some}
-use Rattle.diagram.specs.Rules.{Rule, constant, _⋆_, arity, Even, negate, full}
-use Rattle.diagram.specs.Edges.{Target, terminal, diamond, Edge, edge, Diamond, pair, Store, flip, sense, diamond-rule, rule-of, same, same-diamond}
+use Rattle.diagram.specs.Rules.{Rule, constant, _⋆_, arity, negate}
+use Rattle.diagram.specs.Edges.{Edge, Diamond, pair, Store, flip, diamond-rule, rule-of, same-diamond}
 use Rattle.diagram.specs.declared.meanings.Meaning.{Meaning}
 use Rattle.diagram.specs.Dialects.{Lawful}
-use Rattle.diagram.specs.Making.{flat, choose, find, diamond-edge, Made, seat, add, flipped, make-by, make, insert}
-use Rattle.diagram.specs.Acceptance.{Within, Accepted, Addable, Normal, Grown, Sound}
+use Rattle.diagram.specs.Making.{choose, find, diamond-edge, Made, seat, add, flipped, make-by, make, insert}
+use Rattle.diagram.specs.Acceptance.{Accepted, Addable, Normal, Grown, Sound}
 use Rattle.diagram.specs.Theorems.{Insert-sound}
-use Prim.Native.Nat.{ℕ, zero, suc, _<_}
+use Prim.Native.Nat.{ℕ, _<_}
 use native.Mathlib.Omega.{arith}
-use lib.Dec.{T, eqb}
 use lib.ListN.{length}
-use Rattle.diagram.proofs.Laws.{not-not, negate-negate, arity-negate, flip-flip, sense-flip, sense-flat, eqb-same, eqb-eq, same-diamond-refl, same-diamond-eq}
+use Rattle.diagram.proofs.Laws.{negate-negate, arity-negate, sense-flip, sense-flat, eqb-same, same-diamond-eq}
 use Rattle.diagram.proofs.Signs.{flip?, choose-flip}
 use Rattle.diagram.proofs.Split.{eqb-less, rule-more, accepted-more, flat-accepted, accepted-flip}
 use Rattle.diagram.proofs.Fits.{lettered, lettered-rule, lettered-accepted}

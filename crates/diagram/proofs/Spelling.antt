@@ -13,17 +13,17 @@ use Rattle.diagram.proofs.Laws.{letter-of-code}
 use Rattle.diagram.specs.Words.{numeral, letters-of, Spells}
 use Rattle.diagram.proofs.Notions.{Words-read, Words-written}
 
-code-less : (c : Letter) → letter-code c < 8
-code-less U = omega arith
-code-less X = omega arith
-code-less C00 = omega arith
-code-less C01 = omega arith
-code-less C10 = omega arith
-code-less C11 = omega arith
+pub code-most : (c : Letter) → letter-code c ≤ 5
+code-most U = omega arith
+code-most X = omega arith
+code-most C00 = omega arith
+code-most C01 = omega arith
+code-most C10 = omega arith
+code-most C11 = omega arith
 
 pub numeral-less : (w : List Letter) → numeral w < 8 ^ length w
 numeral-less [] = omega arith
-numeral-less (c ∷ w) = rw (pow-succ' 8 (length w)) (digits-lt (code-less c) (numeral-less w))
+numeral-less (c ∷ w) = rw (pow-succ' 8 (length w)) (digits-lt (let h = code-most c in omega arith) (numeral-less w))
 
 pub code-of-letter : (d : ℕ) → d ≤ 5 → letter-code (letter-of d) ≡ d
 code-of-letter zero h = refl
@@ -32,14 +32,6 @@ code-of-letter (suc (suc zero)) h = refl
 code-of-letter (suc (suc (suc zero))) h = refl
 code-of-letter (suc (suc (suc (suc zero)))) h = refl
 code-of-letter (suc (suc (suc (suc (suc d))))) h = omega arith
-
-pub code-most : (c : Letter) → letter-code c ≤ 5
-code-most U = omega arith
-code-most X = omega arith
-code-most C00 = omega arith
-code-most C01 = omega arith
-code-most C10 = omega arith
-code-most C11 = omega arith
 
 -- the topmost letter, and the rest
 pub top : (c : Letter) (w : List Letter) → numeral (c ∷ w) / 8 ^ length w ≡ letter-code c

@@ -1,22 +1,21 @@
 -- Acceptance, letter by letter and condition by condition, of the program's edges.
-use mathlib.Core.Path.{_≡_, refl, sym, _∙_, ap, ap₂, subst}
+use mathlib.Core.Path.{_≡_, refl, sym, _∙_, ap, ap₂}
 use mathlib.Core.Bool.{Bool, true, false, not, cond, _&&_}
-use mathlib.Core.List.{List, [], _∷_}
-use Prim.Native.Nat.{ℕ, zero, suc, _+_, _-_, _<_, _≤_}
+use mathlib.Core.List.{List, _∷_}
+use Prim.Native.Nat.{ℕ, zero, suc, _+_, _≤_}
 use native.Mathlib.Omega.{arith}
-use lib.Dec.{eqb, leb, ltb}
+use lib.Dec.{leb, ltb}
 use Rattle.std.proofs.shelf.Tests.{and-parts, and-from, le-leb, lt-leb, leb-false, ltb-true, ltb-false}
-use Rattle.std.specs.declared.option.Option.{Option}
-use Rattle.std.specs.declared.option.Option.the-variants.{None, Some}
+use Rattle.std.specs.declared.option.Option.the-variants.{None}
 use Rattle.diagram.specs.declared.letters.Letter.{Letter}
 use Rattle.diagram.specs.declared.meanings.Meaning.{Meaning}
 use Rattle.diagram.specs.declared.edges.Edge.{Edge as EdgeRecord}
 use Rattle.diagram.specs.declared.edges.Diamond.{Diamond as DiamondRecord}
 use Rattle.diagram.specs.Rules.{arity}
 use Rattle.diagram.specs.Words.{letters-of, spells, peeled}
-use Rattle.diagram.specs.Edges.{Target, Edge, edge, Store, foot, diamond-rule, rule-of}
+use Rattle.diagram.specs.Edges.{Target, Store, foot, diamond-rule, rule-of}
 use Rattle.diagram.specs.Making.{flat, choose, low-of, high-of, upright}
-use Rattle.diagram.specs.Acceptance.{inside, usual, gives, well-spelled, accepts, acceptable}
+use Rattle.diagram.specs.Acceptance.{inside, usual, gives, well-spelled, accepts}
 use Rattle.diagram.specs.Records.{target-of, edge-of, store-of, stands-in, spelled-edge, accepted-in, letter-chosen}
 use Rattle.diagram.proofs.Eights.{peel-none}
 use Rattle.diagram.proofs.Bridge.{arity-edge}

@@ -1,26 +1,26 @@
 -- An accepted edge is a terminal edge, or it has two halves: what it means is made of what they mean, they are accepted, and making gives the edge back.
 use mathlib.Core.Path.{_≡_, refl, sym, _∙_, ap, ap₂, subst}
 use mathlib.Core.Logic.{_≢_, _⊎_, inl, inr}
-use mathlib.Core.Bool.{Bool, true, false, not, cond, _&&_, Bool·beq}
-use mathlib.Core.List.{List, [], _∷_, _++_}
+use mathlib.Core.Bool.{Bool, true, false, not, cond}
+use mathlib.Core.List.{List, [], _∷_}
 use Rattle.std.specs.declared.option.Option.{Option}
 use Rattle.std.specs.declared.option.Option.the-variants.{None, Some}
-use Rattle.diagram.specs.Rules.{Rule, constant, _⋆_, arity, negate, full}
+use Rattle.diagram.specs.Rules.{Rule, constant, _⋆_, arity, negate}
 use Rattle.diagram.specs.declared.letters.Letter.{Letter}
 use Rattle.diagram.specs.declared.letters.Letter.the-variants.{U, X, C00, C01, C10, C11}
-use Rattle.diagram.specs.Letters.{on, partner}
-use Rattle.diagram.specs.Edges.{Target, terminal, diamond, Edge, edge, Diamond, pair, Store, flip, turned, put, sign, spell, foot, sense, diamond-rule, rule-of, same, same-diamond, diamond-at}
+use Rattle.diagram.specs.Letters.{on}
+use Rattle.diagram.specs.Edges.{Target, terminal, diamond, Edge, edge, Diamond, Store, flip, turned, put, sign, spell, foot, sense, diamond-rule, rule-of, same, same-diamond, diamond-at}
 use Rattle.diagram.specs.Dialects.{look, Lawful, has-letter, answer-at}
 use Rattle.diagram.specs.declared.meanings.Meaning.{Meaning}
-use Rattle.diagram.specs.Making.{flat, source, written, choose, find, diamond-edge, Made, seat, add, flipped, make-by, make, low-of, high-of, upright, low-upright, high-upright, low-half, high-half}
+use Rattle.diagram.specs.Making.{flat, source, written, choose, find, diamond-edge, flipped, low-of, high-of, upright, low-upright, high-upright}
 use Rattle.diagram.specs.Acceptance.{Within, Spelled, Accepted, Addable, Normal}
 use Rattle.diagram.proofs.Notions.{Halves}
 use Prim.Native.Nat.{ℕ, zero, suc, _<_}
 use native.Mathlib.Omega.{arith}
 use native.Mathlib.Nat.{not-suc-le-zero}
-use lib.Dec.{T, eqb, eqb→eq, eqb-refl}
+use lib.Dec.{eqb}
 use lib.ListN.{length, replicate}
-use Rattle.diagram.proofs.Laws.{not-not, negate-negate, arity-negate, flip-flip, sense-flip, sense-put, sense-flat, eqb-same, eqb-eq, same-refl, same-eq, same-diamond-refl, same-diamond-eq}
+use Rattle.diagram.proofs.Laws.{sense-flip, sense-flat, eqb-same, eqb-eq, same-refl, same-diamond-refl, same-diamond-eq}
 use Rattle.diagram.proofs.Signs.{make-flip}
 
 -- More diamonds --

@@ -1,5 +1,5 @@
 -- The test of a dialect, read and met.
-use mathlib.Core.Path.{_≡_, refl, sym, _∙_, ap, subst}
+use mathlib.Core.Path.{_≡_, refl, sym, ap, subst}
 use mathlib.Core.Bool.{Bool, true, false, not, cond, _&&_}
 use Rattle.std.specs.declared.option.Option.{Option}
 use Rattle.std.specs.declared.option.Option.the-variants.{None, Some}
@@ -11,9 +11,9 @@ use Rattle.diagram.specs.declared.letters.Look.the-variants.{ZeroOne, OneZero,
 use Rattle.diagram.specs.Dialects.{fits, turn, Lawful, partners, every-look, every-letter, same-answer, right-answer, right-look, lawful, has-letter, answer-at}
 use Rattle.diagram.specs.declared.meanings.Meaning.{Meaning}
 use Rattle.diagram.specs.Theorems.{Lawful-tested}
-use Prim.Native.Nat.{ℕ, _<_}
+use Prim.Native.Nat.{ℕ}
 use native.Mathlib.Omega.{arith}
-use lib.Dec.{eqb, ltb, ltb→lt, lt→ltb}
+use lib.Dec.{ltb, ltb→lt, lt→ltb}
 use Rattle.diagram.proofs.Laws.{and-left, and-right, both, true-T, T-true, eqb-same, letter-eq}
 
 look-read : (p : Look → Bool) → every-look p ≡ true → (k : Look) → p k ≡ true
@@ -95,13 +95,11 @@ answer-met D law k (Some c) e = let w = law .own k c e in both (has-letter D c) 
 
 read : (D : Meaning) → lawful D ≡ true → Lawful D
 read D e =
-    let u = and-right (ltb (D .code) 256) _ e in
-    let x = and-right (has-letter D U) _ u in
+    let x = and-right (has-letter D U) _ e in
     let r : (k : Look) → right-look D k ≡ true = look-read (right-look D) (and-right (cond (has-letter D X) (D .negates) true) _ x) in
     let w : (k : Look) → right-answer D k (answer-at D k) ≡ true = λ k. and-left (right-answer D k (answer-at D k)) _ (r k) in
     record {
-      byte = ltb→lt (D .code) 256 (true-T (ltb (D .code) 256) (and-left (ltb (D .code) 256) _ e));
-      has-u = and-left (has-letter D U) _ u;
+      has-u = and-left (has-letter D U) _ e;
       has-x = cond-read (has-letter D X) (D .negates) (and-left (cond (has-letter D X) (D .negates) true) _ x);
       own = λ k c a. own-read D k (answer-at D k) c a (w k);
       silent = λ k. (λ a. silent-read D k (answer-at D k) a (w k), none-read D k (answer-at D k) (w k));
@@ -110,13 +108,12 @@ read D e =
 
 met : (D : Meaning) → Lawful D → lawful D ≡ true
 met D law =
-    both (ltb (D .code) 256) _ (T-true (ltb (D .code) 256) (lt→ltb (D .code) 256 (law .byte)))
-    (both (has-letter D U) _ (law .has-u)
+    both (has-letter D U) _ (law .has-u)
     (both (cond (has-letter D X) (D .negates) true) _ (cond-met (has-letter D X) (D .negates) (law .has-x))
     (look-met (right-look D) (λ k.
     both (right-answer D k (answer-at D k)) _ (answer-met D law k (answer-at D k) refl)
     (cond-met (D .negates) (same-answer (answer-at D (turn k)) (partners (answer-at D k))) (λ neg.
-    subst (λ (o : Option Letter). same-answer (answer-at D (turn k)) o ≡ true) (law .turns neg k) (same-answer-refl (answer-at D (turn k)))))))))
+    subst (λ (o : Option Letter). same-answer (answer-at D (turn k)) o ≡ true) (law .turns neg k) (same-answer-refl (answer-at D (turn k))))))))
 
 pub tested : Lawful-tested
 tested D = (read D, met D)

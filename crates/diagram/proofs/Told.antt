@@ -1,20 +1,21 @@
--- What edges mean is even; so edges are told by their values. And what is accepted is told by inserting.
-use mathlib.Core.Path.{_≡_, refl, sym, _∙_, ap, ap₂, subst}
+-- The rules that calls ask for are even, and so is what edges mean; so edges are told by their values. And what is accepted is told by inserting.
+use mathlib.Core.Path.{_≡_, refl, sym, _∙_, ap, subst}
 use mathlib.Core.Bool.{Bool, true, false, cond}
 use mathlib.Core.List.{List, [], _∷_}
 use Prim.Native.Nat.{ℕ, zero, suc}
+use native.Mathlib.Omega.{arith}
 use lib.Dec.{eqb}
 use lib.ListN.{length}
-use Rattle.diagram.specs.Rules.{Rule, constant, _⋆_, arity, Even, negate, full}
+use Rattle.diagram.specs.Rules.{Rule, constant, _⋆_, arity, Even, negate, full, variable, pointwise}
 use Rattle.diagram.specs.declared.letters.Letter.{Letter}
 use Rattle.diagram.specs.declared.letters.Letter.the-variants.{U, X, C00, C01, C10, C11}
 use Rattle.diagram.specs.Letters.{on}
 use Rattle.diagram.specs.Edges.{Target, terminal, diamond, Edge, Store, sign, spell, foot, sense, diamond-rule, rule-of}
 use Rattle.diagram.specs.declared.meanings.Meaning.{Meaning}
-use Rattle.diagram.specs.Making.{Made, insert}
-use Rattle.diagram.specs.Acceptance.{Accepted, Normal, Sound}
+use Rattle.diagram.specs.Making.{Made}
+use Rattle.diagram.specs.Acceptance.{Accepted, Normal}
 use Rattle.diagram.proofs.Notions.{Accepted-told}
-use Rattle.diagram.specs.Theorems.{Edges-told}
+use Rattle.diagram.specs.Theorems.{Edges-told, Rules-formed}
 use Rattle.diagram.proofs.Laws.{arity-negate, arity-full}
 use Rattle.diagram.proofs.Values.{values-tell}
 use Rattle.diagram.proofs.Main.{insert-back, canonical}
@@ -27,6 +28,42 @@ even-full (suc n) b = (even-full n b, even-full n b, refl)
 pub even-negate : (f : Rule) → Even f → Even (negate f)
 even-negate (constant b) e = tt
 even-negate (f ⋆ g) e = (even-negate f (e .0), even-negate g (e .1), arity-negate f ∙ e .2 ∙ sym (arity-negate g))
+
+pub arity-variable : (n i : ℕ) → arity (variable n i) ≡ n
+arity-variable zero i = refl
+arity-variable (suc n) zero = ap suc (arity-full n false)
+arity-variable (suc n) (suc i) = ap suc (arity-variable n i)
+
+pub even-variable : (n i : ℕ) → Even (variable n i)
+even-variable zero i = tt
+even-variable (suc n) zero = (even-full n false, even-full n true, arity-full n false ∙ sym (arity-full n true))
+even-variable (suc n) (suc i) = (even-variable n i, even-variable n i, refl)
+
+pub arity-pointwise : (op : Bool → Bool → Bool) (f g : Rule) → arity f ≡ arity g → arity (pointwise op f g) ≡ arity f
+arity-pointwise op (constant a) (constant b) p = refl
+arity-pointwise op (constant a) (g ⋆ g′) p = refl
+arity-pointwise op (f ⋆ f′) (constant b) p = absurd (omega arith)
+arity-pointwise op (f ⋆ f′) (g ⋆ g′) p = ap suc (arity-pointwise op f g (omega arith))
+
+pub even-pointwise : (op : Bool → Bool → Bool) (f g : Rule) → Even f → Even g → arity f ≡ arity g → Even (pointwise op f g)
+even-pointwise op (constant a) (constant b) ef eg p = tt
+even-pointwise op (constant a) (g ⋆ g′) ef eg p = tt
+even-pointwise op (f ⋆ f′) (constant b) ef eg p = tt
+even-pointwise op (f ⋆ f′) (g ⋆ g′) ef eg p =
+    let q : arity f ≡ arity g = omega arith in
+    let q′ : arity f′ ≡ arity g′ = sym (ef .2) ∙ q ∙ eg .2 in (
+      even-pointwise op f g (ef .0) (eg .0) q,
+      even-pointwise op f′ g′ (ef .1) (eg .1) q′,
+      arity-pointwise op f g q ∙ ef .2 ∙ sym (arity-pointwise op f′ g′ q′),
+    )
+
+pub rules-formed : Rules-formed
+rules-formed = (
+  λ n b. (even-full n b, arity-full n b),
+  λ n i. (even-variable n i, arity-variable n i),
+  λ f e. (even-negate f e, arity-negate f),
+  λ op f g ef eg p. (even-pointwise op f g ef eg p, arity-pointwise op f g p),
+)
 
 even-on : (c : Letter) (f : Rule) → Even f → Even (on c f)
 even-on U f e = (e, e, refl)

@@ -1,8 +1,8 @@
 -- Walking from an accepted edge of a normal store and renumbering gives what inserting the edge's rule into the empty store gives.
 use mathlib.Core.Path.{_≡_, refl, sym, _∙_, ap, ap₂, subst}
-use mathlib.Core.Logic.{_≢_, _⊎_, inl, inr}
-use mathlib.Core.Bool.{Bool, true, false, not, cond, _&&_, Bool·beq}
-use mathlib.Core.List.{List, [], _∷_, _++_}
+use mathlib.Core.Logic.{_⊎_, inl, inr}
+use mathlib.Core.Bool.{Bool, true, false, cond, _&&_, Bool·beq}
+use mathlib.Core.List.{List, [], _∷_}
 use Rattle.std.specs.declared.option.Option.{Option}
 use Rattle.std.specs.declared.option.Option.the-variants.{None, Some}
 use Rattle.diagram.specs.Rules.{Rule, constant, _⋆_, arity}
@@ -13,18 +13,18 @@ use Rattle.diagram.specs.Dialects.{all-u, kind-at, kind, look-at, look, Lawful
 use Rattle.diagram.specs.declared.meanings.Meaning.{Meaning}
 use Rattle.diagram.specs.Making.{flat, source, written, choose, find, diamond-edge, Made, seat, add, flipped, make-by, make, insert, upright, low-upright, high-upright, low-half, high-half, low-of, high-of}
 use Rattle.diagram.specs.Acceptance.{Within, Accepted, Normal}
-use Rattle.diagram.proofs.Notions.{Halves, Lower, place, retarget, moved, copied, renumbered, Walk-is-insert}
+use Rattle.diagram.proofs.Notions.{Halves, Lower, place, retarget, moved, copied, Walk-is-insert}
 use Rattle.diagram.specs.Walks.{met, visit, reached}
 use Rattle.diagram.specs.Theorems.{Walk-counts}
-use Prim.Native.Nat.{ℕ, zero, suc, _<_, _≤_}
+use Prim.Native.Nat.{ℕ, suc, _<_, _≤_}
 use native.Mathlib.Omega.{arith}
 use native.Mathlib.Nat.{not-suc-le-zero}
 use lib.Dec.{eqb}
 use lib.ListN.{length, replicate, length-reverse}
-use Rattle.diagram.proofs.Laws.{eqb-same, eqb-eq, same-eq, same-diamond-eq, same-diamond-refl}
+use Rattle.diagram.proofs.Laws.{eqb-same, eqb-eq, same-diamond-eq, same-diamond-refl}
 use Rattle.diagram.proofs.Signs.{make-flip}
 use Rattle.diagram.proofs.Down.{Down, lower-at, normal-lower, visit-terminal, visit-next, visit-step}
-use Rattle.diagram.proofs.Split.{eqb-less, neqb-ne, Found, found, Leaf, split, accepted-flip}
+use Rattle.diagram.proofs.Split.{neqb-ne, Found, found, Leaf, split, accepted-flip}
 
 never : {A : Type 0} → _≡_ {A = ℕ} 0 1 → A
 never z = absurd (omega arith)

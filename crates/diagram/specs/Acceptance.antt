@@ -3,7 +3,7 @@ use mathlib.Core.Path.{_≡_}
 use mathlib.Core.Logic.{_≢_}
 use mathlib.Core.Bool.{Bool, true, false, not, cond, _&&_}
 use mathlib.Core.List.{List, [], _∷_, _++_}
-use Prim.Native.Nat.{ℕ, _<_, _≤_}
+use Prim.Native.Nat.{_<_, _≤_}
 use lib.Dec.{eqb, ltb, leb}
 use lib.ListN.{length}
 use Rattle.std.specs.declared.option.Option.{Option}
@@ -28,6 +28,7 @@ Spelled D s t (c ∷ w) =
     Spelled D s t w
     × (choose D (low-upright D s (c ∷ w) t) (high-upright D s (c ∷ w) t) ≡ Some (upright (c ∷ w) t))
 
+-- every condition of acceptance but the bound of 20 marks
 pub record Accepted (D : Meaning) (s : Store) (e : Edge) : Type 0 where
   pub within : Within s (e .target)
   -- a dialect that does not negate uses no mark
@@ -36,7 +37,7 @@ pub record Accepted (D : Meaning) (s : Store) (e : Edge) : Type 0 where
   pub ended : D .negates ≡ true → e .target ≢ terminal true
   pub spelled : Spelled D s (e .target) (e .word)
 
--- an edge that a call takes: accepted, and of at most 20 marks
+-- what a call accepts: that, and at most 20 marks
 pub record Acceptable (D : Meaning) (s : Store) (e : Edge) : Type 0 where
   pub accepted : Accepted D s e
   pub short : arity (rule-of s e) ≤ 20
@@ -75,6 +76,7 @@ pub record Sound (D : Meaning) (s : Store) (f : Rule) (m : Made) : Type 0 where
 
 -- The same, as tests --
 
+-- the target stands in the store
 abbrev pub inside : Store → Target → Bool
 inside s (terminal b) = true
 inside s (diamond k) = ltb k (length s)
@@ -84,26 +86,32 @@ abbrev pub usual : Target → Bool
 usual (terminal b) = not b
 usual (diamond k) = true
 
+-- the edge chosen, if any, is e
 abbrev pub gives : Option Edge → Edge → Bool
 gives None e = false
 gives (Some d) e = same d e
 
+-- there is none
 abbrev pub nothing : {A : Type 0} → Option A → Bool
 nothing None = true
 nothing (Some x) = false
 
+-- each letter of the word is the one that making chooses for the halves that it stands for
 abbrev pub well-spelled : Meaning → Store → Target → List Letter → Bool
 well-spelled D s t [] = true
 well-spelled D s t (c ∷ w) =
     well-spelled D s t w && gives (choose D (low-upright D s (c ∷ w) t) (high-upright D s (c ∷ w) t)) (upright (c ∷ w) t)
 
+-- every condition but the bound of 20 marks
 abbrev pub accepts : Meaning → Store → Edge → Bool
 accepts D s e =
     inside s (e .target) && (cond (D .negates) (usual (e .target)) (not (e .negated)) && well-spelled D s (e .target) (e .word))
 
+-- that, and at most 20 marks: what a call accepts
 abbrev pub acceptable : Meaning → Store → Edge → Bool
 acceptable D s e = accepts D s e && leb (arity (rule-of s e)) 20
 
+-- the diamond n may be added to the store s
 abbrev pub admits : Meaning → Store → Diamond → Bool
 admits D s n =
     accepts D s (n .low)
@@ -111,10 +119,12 @@ admits D s n =
     && (eqb (arity (rule-of s (n .low))) (arity (rule-of s (n .high)))
     && (nothing (choose D (n .low) (n .high)) && (not (n .low .negated) && nothing (find s n)))))
 
+-- each diamond could be added to those before it
 abbrev pub normal : Meaning → Store → Bool
 normal D [] = true
 normal D (n ∷ s) = normal D s && admits D s n
 
+-- the edges of each diamond have at most 19 marks
 abbrev pub shallow : Store → Bool
 shallow [] = true
 shallow (n ∷ s) = shallow s && (leb (arity (rule-of s (n .low))) 19 && leb (arity (rule-of s (n .high))) 19)

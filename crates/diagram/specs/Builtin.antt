@@ -1,8 +1,6 @@
 -- The meanings of the five built-in dialects.
-use mathlib.Core.Bool.{Bool, true, false}
-use Rattle.std.specs.declared.option.Option.{Option}
+use mathlib.Core.Bool.{true, false}
 use Rattle.std.specs.declared.option.Option.the-variants.{None, Some}
-use Rattle.diagram.specs.declared.letters.Letter.{Letter}
 use Rattle.diagram.specs.declared.letters.Letter.the-variants.{X, C00, C01, C10, C11}
 use Rattle.diagram.specs.declared.meanings.Letters.{Letters}
 use Rattle.diagram.specs.declared.meanings.Answers.{Answers}

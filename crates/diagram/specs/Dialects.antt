@@ -3,7 +3,7 @@ use mathlib.Core.Path.{_≡_}
 use mathlib.Core.Logic.{_↔_}
 use mathlib.Core.Bool.{Bool, true, false, not, cond, _&&_}
 use mathlib.Core.List.{List, [], _∷_}
-use Prim.Native.Nat.{ℕ, _<_}
+use Prim.Native.Nat.{_<_}
 use lib.Dec.{eqb, ltb}
 use Rattle.std.specs.declared.option.Option.{Option}
 use Rattle.std.specs.declared.option.Option.the-variants.{None, Some}
@@ -44,6 +44,7 @@ abbrev pub all-u : List Letter → Bool
 all-u [] = true
 all-u (c ∷ w) = eqb (letter-code c) 0 && all-u w
 
+-- the constant b
 abbrev pub constantly : Bool → Kind
 constantly true = AllOne
 constantly false = AllZero
@@ -53,6 +54,7 @@ abbrev pub flips : Bool → Bool → Bool
 flips true b = not b
 flips false b = b
 
+-- what an edge is seen to be, by whether its word is of u alone, its mark and its target
 abbrev pub kind-at : Bool → Bool → Target → Kind
 kind-at true n (terminal b) = constantly (flips n b)
 kind-at true n (diamond k) = Mixed
@@ -92,6 +94,7 @@ low-kind OtherOne = Mixed
 low-kind Opposite = Mixed
 low-kind Plain = Mixed
 
+-- what the high half is at a look
 abbrev pub high-kind : Look → Kind
 high-kind ZeroOne = AllOne
 high-kind OneZero = AllZero
@@ -144,13 +147,13 @@ turn Plain = Plain
 
 -- Lawful dialects --
 
+-- the partner of an answer; none of none
 abbrev pub partners : Option Letter → Option Letter
 partners None = None
 partners (Some c) = Some (partner c)
 
+-- the laws of a dialect
 pub record Lawful (D : Meaning) : Type 0 where
-  -- its code is a byte
-  pub byte : D .code < 256
   -- it has u
   pub has-u : has-letter D U ≡ true
   -- it has x only if it negates
@@ -162,19 +165,22 @@ pub record Lawful (D : Meaning) : Type 0 where
   -- if it negates, the look of both halves negated is answered by the partner
   pub turns : D .negates ≡ true → (k : Look) → answer-at D (turn k) ≡ partners (answer-at D k)
 
--- W has every letter of D, and negates if D does
-pub record Richer (D W : Meaning) : Type 0 where
+-- W is wider than D: it has every letter of D, and negates if D does
+pub record Wider (D W : Meaning) : Type 0 where
   pub letters : (c : Letter) → has-letter D c ≡ true → has-letter W c ≡ true
   pub signs : D .negates ≡ true → W .negates ≡ true
 
 -- The laws as a test --
 
+-- p holds of all eight looks
 abbrev pub every-look : (Look → Bool) → Bool
 every-look p = p ZeroOne && (p OneZero && (p ZeroOther && (p OneOther && (p OtherZero && (p OtherOne && (p Opposite && p Plain))))))
 
+-- p holds of all six letters
 abbrev pub every-letter : (Letter → Bool) → Bool
 every-letter p = p U && (p X && (p C00 && (p C01 && (p C10 && p C11))))
 
+-- the answers are the same letter, or both are none
 abbrev pub same-answer : Option Letter → Option Letter → Bool
 same-answer None None = true
 same-answer None (Some c) = false
@@ -191,5 +197,6 @@ abbrev pub right-look : Meaning → Look → Bool
 right-look D k =
     right-answer D k (answer-at D k) && cond (D .negates) (same-answer (answer-at D (turn k)) (partners (answer-at D k))) true
 
+-- the laws of a dialect, as a test
 abbrev pub lawful : Meaning → Bool
-lawful D = ltb (D .code) 256 && (has-letter D U && (cond (has-letter D X) (D .negates) true && every-look (right-look D)))
+lawful D = has-letter D U && (cond (has-letter D X) (D .negates) true && every-look (right-look D))

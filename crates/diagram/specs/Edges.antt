@@ -21,16 +21,20 @@ pub record Edge : Type 0 where
   pub word : List Letter
   pub target : Target
 
+-- the edge with these parts
 abbrev pub edge : Bool → List Letter → Target → Edge
 edge n w t = record { negated = n; word = w; target = t }
 
+-- two edges, low and high
 pub record Diamond : Type 0 where
   pub low : Edge
   pub high : Edge
 
+-- the diamond with these edges
 abbrev pub pair : Edge → Edge → Diamond
 pair l h = record { low = l; high = h }
 
+-- the diamonds of an engine, the newest first
 abbrev pub Store : Type 0
 Store = List Diamond
 
@@ -51,6 +55,7 @@ abbrev pub foot : (ℕ → Rule) → Target → Rule
 foot r (terminal b) = constant b
 foot r (diamond k) = r k
 
+-- the rule of an edge, where r has the rules of the diamonds
 abbrev pub sense : (ℕ → Rule) → Edge → Rule
 sense r e = sign (e .negated) (spell (e .word) (foot r (e .target)))
 
@@ -87,20 +92,24 @@ put c e = edge (e .negated) (turned (e .negated) c ∷ e .word) (e .target)
 
 -- Equality, as tests --
 
+-- the same letters in the same order
 abbrev pub same-word : List Letter → List Letter → Bool
 same-word [] [] = true
 same-word [] (c ∷ w) = false
 same-word (c ∷ w) [] = false
 same-word (c ∷ w) (d ∷ v) = eqb (letter-code c) (letter-code d) && same-word w v
 
+-- the same terminal, or the same diamond
 abbrev pub same-target : Target → Target → Bool
 same-target (terminal b) (terminal c) = Bool·beq b c
 same-target (terminal b) (diamond k) = false
 same-target (diamond j) (terminal c) = false
 same-target (diamond j) (diamond k) = eqb j k
 
+-- the same mark, word and target
 abbrev pub same : Edge → Edge → Bool
 same a b = Bool·beq (a .negated) (b .negated) && (same-word (a .word) (b .word) && same-target (a .target) (b .target))
 
+-- the same low edge and the same high edge
 abbrev pub same-diamond : Diamond → Diamond → Bool
 same-diamond a b = same (a .low) (b .low) && same (a .high) (b .high)

@@ -27,6 +27,7 @@ source C01 l h = h
 source C10 l h = l
 source C11 l h = l
 
+-- the answer c set on the half that it goes on; none where there is no answer
 abbrev pub written : Option Letter → Edge → Edge → Option Edge
 written None l h = None
 written (Some c) l h = Some (put c (source c l h))
@@ -40,6 +41,7 @@ abbrev pub find : Store → Diamond → Option ℕ
 find [] n = None
 find (m ∷ s) n = cond (same-diamond m n) (Some (length s)) (find s n)
 
+-- the unmarked edge without letters to diamond k
 abbrev pub diamond-edge : ℕ → Edge
 diamond-edge k = edge false [] (diamond k)
 
@@ -47,6 +49,7 @@ diamond-edge k = edge false [] (diamond k)
 abbrev pub Made : Type 0
 Made = Store × Edge
 
+-- the edge to the diamond n: at the number k that it has in s, or else added under the next number
 abbrev pub seat : Option ℕ → Store → Diamond → Made
 seat None s n = (n ∷ s, diamond-edge (length s))
 seat (Some k) s n = (s, diamond-edge k)
@@ -55,6 +58,7 @@ seat (Some k) s n = (s, diamond-edge k)
 abbrev pub add : Store → Edge → Edge → Made
 add s l h = seat (find s (pair l h)) s (pair l h)
 
+-- the same store, and the edge with the other mark
 abbrev pub flipped : Made → Made
 flipped m = (m .0, flip (m .1))
 
@@ -89,6 +93,7 @@ low-of C01 k e = k true
 low-of C10 k e = e
 low-of C11 k e = e
 
+-- the high half that a letter stands for
 abbrev pub high-of : Letter → (Bool → Edge) → Edge → Edge
 high-of U k e = e
 high-of X k e = flip e
@@ -101,16 +106,19 @@ high-of C11 k e = k true
 abbrev pub upright : List Letter → Target → Edge
 upright w t = edge false w t
 
+-- the low half of the unmarked edge with the word w and the target t: that of the topmost letter, or of the diamond; an edge of no mark has none, and is given back
 abbrev pub low-upright : Meaning → Store → List Letter → Target → Edge
 low-upright D s [] (terminal b) = upright [] (terminal b)
 low-upright D s [] (diamond k) = diamond-at s k .low
 low-upright D s (c ∷ w) t = low-of c (flat D (arity (rule-of s (upright w t)))) (upright w t)
 
+-- its high half
 abbrev pub high-upright : Meaning → Store → List Letter → Target → Edge
 high-upright D s [] (terminal b) = upright [] (terminal b)
 high-upright D s [] (diamond k) = diamond-at s k .high
 high-upright D s (c ∷ w) t = high-of c (flat D (arity (rule-of s (upright w t)))) (upright w t)
 
+-- the edge with the other mark where b holds
 abbrev pub flip-if : Bool → Edge → Edge
 flip-if true e = flip e
 flip-if false e = e
@@ -119,5 +127,6 @@ flip-if false e = e
 abbrev pub low-half : Meaning → Store → Edge → Edge
 low-half D s e = flip-if (e .negated) (low-upright D s (e .word) (e .target))
 
+-- the high half of an edge
 abbrev pub high-half : Meaning → Store → Edge → Edge
 high-half D s e = flip-if (e .negated) (high-upright D s (e .word) (e .target))

@@ -5,16 +5,18 @@ use mathlib.Core.Bool.{true}
 use mathlib.Core.List.{List}
 use Prim.Native.Nat.{ℕ, _^_, _<_, _≤_}
 use lib.ListN.{length, take}
+use Rattle.std.specs.declared.option.Option.the-variants.{Some}
+use Rattle.diagram.specs.declared.letters.Letter.{Letter}
 use Rattle.diagram.specs.declared.meanings.Meaning.{Meaning}
 use Rattle.diagram.specs.declared.edges.Edge.{Edge as EdgeRecord}
 use Rattle.diagram.specs.declared.edges.Diamond.{Diamond as DiamondRecord}
 use Rattle.diagram.specs.Rules.{Rule, arity, Even, value}
-use Rattle.diagram.specs.Edges.{rule-of}
+use Rattle.diagram.specs.Edges.{put, rule-of}
 use Rattle.diagram.specs.Dialects.{Lawful}
-use Rattle.diagram.specs.Making.{Made, insert, count}
+use Rattle.diagram.specs.Making.{Made, written, choose, find, insert, count}
 use Rattle.diagram.specs.Acceptance.{normal}
 use Rattle.diagram.specs.Walks.{walk}
-use Rattle.diagram.specs.Records.{edge-of, store-of, edge-record, diamonds-of, arity-in, spelled-edge, spelled-diamonds, accepted-in}
+use Rattle.diagram.specs.Records.{edge-of, store-of, edge-record, diamonds-of, arity-in, spelled-edge, spelled-diamonds, accepted-in, diamond-of, letter-for, with-letter, number-of}
 
 -- the diamonds ds are normal in the dialect D, and the words of their edges spell
 abbrev pub Normal-in : Meaning → List DiamondRecord → Type 0
@@ -41,6 +43,12 @@ Accepted-back =
     (D : Meaning) → Lawful D → (ds : List DiamondRecord) → Normal-in D ds → (e : EdgeRecord) →
     (accepted-in D ds e ≡ true)
     ↔ ((spelled-edge e ≡ true) × (arity (rule-in ds e) ≤ 20) × (insert D (store-of ds) (rule-in ds e) ≡ (store-of ds, edge-of e)))
+
+-- of edges whose words spell: the letter for two halves is the one that making chooses; a letter set on an edge with a place above it is set as making sets it; a diamond is looked up under the number that making finds
+pub record Making-meant : Type 0 where
+  pub chosen : (D : Meaning) (l h : EdgeRecord) → spelled-edge l ≡ true → spelled-edge h ≡ true → choose D (edge-of l) (edge-of h) ≡ written (letter-for D l h) (edge-of l) (edge-of h)
+  pub set : (c : Letter) (e : EdgeRecord) → spelled-edge e ≡ true → e .length < 20 → with-letter c e ≡ Some (edge-record (put c (edge-of e)))
+  pub found : (ds : List DiamondRecord) (d : DiamondRecord) → spelled-diamonds ds ≡ true → spelled-edge (d .low) ≡ true → spelled-edge (d .high) ≡ true → number-of ds d ≡ find (store-of ds) (diamond-of d)
 
 -- the diamonds es and the edge e are a right answer to the rule f where the diamonds ds stood
 pub record Answered (D : Meaning) (ds : List DiamondRecord) (f : Rule) (es : List DiamondRecord) (e : EdgeRecord) : Type 0 where

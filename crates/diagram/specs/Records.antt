@@ -24,33 +24,41 @@ use Rattle.diagram.specs.Acceptance.{acceptable}
 
 -- What a record stands for --
 
+-- the target that a program's target stands for
 abbrev pub target-of : TargetRecord → Target
 target-of Zero = terminal false
 target-of One = terminal true
 target-of (DiamondNumber k) = diamond k
 
+-- the edge that a program's edge stands for, if its word spells
 abbrev pub edge-of : EdgeRecord → Edge
 edge-of e = edge (e .negated) (letters-of (e .length) (e .word)) (target-of (e .target))
 
+-- the diamond that a program's diamond stands for
 abbrev pub diamond-of : DiamondRecord → Diamond
 diamond-of d = pair (edge-of (d .low)) (edge-of (d .high))
 
+-- the store that a program's list of diamonds stands for
 abbrev pub store-of : List DiamondRecord → Store
 store-of ds = reverse (map diamond-of ds)
 
 -- And back --
 
+-- the program's target
 abbrev pub target-record : Target → TargetRecord
 target-record (terminal false) = Zero
 target-record (terminal true) = One
 target-record (diamond k) = DiamondNumber k
 
+-- the program's edge: its word is the numeral
 abbrev pub edge-record : Edge → EdgeRecord
 edge-record e = record { negated = e .negated; length = length (e .word); word = numeral (e .word); target = target-record (e .target) }
 
+-- the program's diamond
 abbrev pub diamond-record : Diamond → DiamondRecord
 diamond-record d = record { low = edge-record (d .low); high = edge-record (d .high) }
 
+-- the program's list of diamonds
 abbrev pub diamonds-of : Store → List DiamondRecord
 diamonds-of s = map diamond-record (reverse s)
 
@@ -76,6 +84,7 @@ stands-in ds (DiamondNumber k) = ltb k (length ds)
 abbrev pub spelled-edge : EdgeRecord → Bool
 spelled-edge e = spells (e .length) (e .word)
 
+-- the words of all edges of the diamonds spell
 abbrev pub spelled-diamonds : List DiamondRecord → Bool
 spelled-diamonds [] = true
 spelled-diamonds (d ∷ ds) = spelled-edge (d .low) && (spelled-edge (d .high) && spelled-diamonds ds)
@@ -86,6 +95,7 @@ accepted-in D ds e = spelled-edge e && acceptable D (store-of ds) (edge-of e)
 
 -- The letter for two halves --
 
+-- the same terminal, or the same diamond
 abbrev pub same-target-record : TargetRecord → TargetRecord → Bool
 same-target-record Zero Zero = true
 same-target-record Zero One = false
@@ -113,6 +123,7 @@ kind-to true n One = constantly (flips n true)
 kind-to true n (DiamondNumber k) = Mixed
 kind-to false n t = Mixed
 
+-- what a program's edge is seen to be as a half
 abbrev pub kind-of : EdgeRecord → Kind
 kind-of e = kind-to (eqb (e .word) 0) (e .negated) (e .target)
 
@@ -123,6 +134,7 @@ letter-for D l h =
 
 -- Diamonds by number --
 
+-- the same low edge and the same high edge
 abbrev pub same-diamond-record : DiamondRecord → DiamondRecord → Bool
 same-diamond-record a b = same-record (a .low) (b .low) && same-record (a .high) (b .high)
 

@@ -1,8 +1,7 @@
 -- The theorems, as contracts cite them.
 use mathlib.Core.Path.{_≡_}
 use mathlib.Core.Logic.{_↔_}
-use mathlib.Core.Bool.{Bool, true, false, not}
-use mathlib.Core.List.{List, []}
+use mathlib.Core.Bool.{Bool, true, not}
 use Prim.Native.Nat.{ℕ, _-_, _/_, _%_, _^_, _<_, _≤_}
 use lib.Dec.{eqb, leb}
 use lib.ListN.{length}
@@ -11,7 +10,7 @@ use Rattle.std.specs.shelf.Lists.{kept-by}
 use Rattle.diagram.specs.declared.meanings.Meaning.{Meaning}
 use Rattle.diagram.specs.Rules.{Rule, arity, Even, negate, full, variable, value, pointwise, ones, tally}
 use Rattle.diagram.specs.Edges.{Edge, Store, rule-of}
-use Rattle.diagram.specs.Dialects.{Lawful, lawful, Richer}
+use Rattle.diagram.specs.Dialects.{Lawful, lawful, Wider}
 use Rattle.diagram.specs.Making.{Made, insert, count}
 use Rattle.diagram.specs.Acceptance.{Acceptable, acceptable, Normal, normal, Accepted, Sound}
 use Rattle.diagram.specs.Walks.{walk}
@@ -29,6 +28,18 @@ Rules-valued =
     × ((n i a : ℕ) → i < n → value (variable n i) a ≡ eqb (a / 2 ^ i % 2) 1)
     × ((f : Rule) (a : ℕ) → value (negate f) a ≡ not (value f a))
     × ((op : Bool → Bool → Bool) (f g : Rule) → Even f → Even g → arity f ≡ arity g → (a : ℕ) → value (pointwise op f g) a ≡ op (value f a) (value g a))
+
+-- the tree f is a rule of n marks
+abbrev pub Of-marks : ℕ → Rule → Type 0
+Of-marks n f = Even f × (arity f ≡ n)
+
+-- a constant and a variable are rules of the marks asked for, a negation and a combination of as many marks as what they are made of
+abbrev pub Rules-formed : Type 0
+Rules-formed =
+    ((n : ℕ) (b : Bool) → Of-marks n (full n b))
+    × ((n i : ℕ) → Of-marks n (variable n i))
+    × ((f : Rule) → Even f → Of-marks (arity f) (negate f))
+    × ((op : Bool → Bool → Bool) (f g : Rule) → Even f → Even g → arity f ≡ arity g → Of-marks (arity f) (pointwise op f g))
 
 -- `ones` counts the assignments at which the value is 1
 abbrev pub Ones-counted : Type 0
@@ -75,6 +86,7 @@ Acceptable-told =
 abbrev pub Acceptable-tested : Type 0
 Acceptable-tested = (D : Meaning) (s : Store) (e : Edge) → (acceptable D s e ≡ true) ↔ Acceptable D s e
 
+-- the test of a store says just that it is normal
 abbrev pub Normal-tested : Type 0
 Normal-tested = (D : Meaning) (s : Store) → (normal D s ≡ true) ↔ Normal D s
 
@@ -84,6 +96,6 @@ Normal-tested = (D : Meaning) (s : Store) → (normal D s ≡ true) ↔ Normal D
 abbrev pub Walk-counts : Type 0
 Walk-counts = (D : Meaning) → Lawful D → (s : Store) → Normal D s → (e : Edge) → Accepted D s e → length (walk s e) ≡ count D (rule-of s e)
 
--- a dialect with every letter of another, and with negation if the other has it, needs no more diamonds
+-- a wider dialect needs no more diamonds for any rule
 abbrev pub Count-falls : Type 0
-Count-falls = (D W : Meaning) → Lawful D → Lawful W → Richer D W → (f : Rule) → Even f → count W f ≤ count D f
+Count-falls = (D W : Meaning) → Lawful D → Lawful W → Wider D W → (f : Rule) → Even f → count W f ≤ count D f

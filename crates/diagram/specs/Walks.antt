@@ -21,6 +21,7 @@ visit (n ∷ s) (diamond k) seen =
     (cond (met seen k) seen (k ∷ visit s (n .high .target) (visit s (n .low .target) seen)))
     (visit s (diamond k) seen)
 
+-- the diamonds that a walk from an edge meets, the last first
 abbrev pub reached : Store → Edge → List ℕ
 reached s e = visit s (e .target) []
 

@@ -1,6 +1,5 @@
 // What a letter is written as, and its partner.
 ghost use mathlib.Core.Path.{_≡_};
-ghost use Prim.Native.Nat.{_≤_};
 ghost use Rattle.diagram.specs.Letters.{letter-code, letter-with, partner};
 use crate::letters::Letter;
 

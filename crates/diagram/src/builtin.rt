@@ -1,4 +1,6 @@
 // The five built-in dialects.
+ghost use mathlib.Core.Path.{_≡_};
+ghost use mathlib.Core.List.{[], _∷_};
 ghost use Rattle.diagram.specs.Builtin.{dialect1, dialect2, dialect3, dialect4, dialect5};
 use crate::dialects::Dialect;
 use crate::letters::Letter;
@@ -151,4 +153,30 @@ pub impl Dialect for Dialect5 as Dialect5Dialect {
             Look::Plain => None,
         }
     }
+}
+
+// The codes of the built-in dialects, by their constants: each is the code of its meaning.
+pub fn codes() -> [u8; 5]
+    ensures { λ r. ⌜ r ≡ dialect1 .code ∷ dialect2 .code ∷ dialect3 .code ∷ dialect4 .code ∷ dialect5 .code ∷ [] ⌝ }
+{
+    [
+        Dialect1::CODE,
+        Dialect2::CODE,
+        Dialect3::CODE,
+        Dialect4::CODE,
+        Dialect5::CODE,
+    ]
+}
+
+// Which of the built-in dialects negate, by their constants: each as its meaning says.
+pub fn negations() -> [bool; 5]
+    ensures { λ r. ⌜ r ≡ dialect1 .negates ∷ dialect2 .negates ∷ dialect3 .negates ∷ dialect4 .negates ∷ dialect5 .negates ∷ [] ⌝ }
+{
+    [
+        Dialect1::NEGATES,
+        Dialect2::NEGATES,
+        Dialect3::NEGATES,
+        Dialect4::NEGATES,
+        Dialect5::NEGATES,
+    ]
 }

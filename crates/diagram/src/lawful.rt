@@ -70,14 +70,6 @@ impl Look {
         }
     }
 }
-
-// Whether a code is a byte, as its type already says.
-fn is_byte(code: u8) -> bool
-    ensures { λ r. ⌜ r ≡ ltb code 256 ⌝ }
-{
-    (code as u16) < 256
-}
-
 // The partner of an answer's letter.
 fn partner_of(answer: Option<Letter>) -> Option<Letter>
     ensures { λ r. ⌜ r ≡ partners answer ⌝ }
@@ -195,6 +187,6 @@ impl Meaning {
     pub fn is_lawful(&self) -> bool
         ensures { λ r. ⌜ r ≡ lawful (now (self .entry)) ⌝ }
     {
-        is_byte(self.code) && self.right_letters() && self.right_looks()
+        self.right_letters() && self.right_looks()
     }
 }

@@ -1,11 +1,10 @@
 // Words: the only octal arithmetic there is. A word is a numeral of `length` octal digits, the topmost letter first.
 ghost use mathlib.Core.Path.{_≡_};
-ghost use mathlib.Core.Bool.{Bool, true, false, _&&_};
+ghost use mathlib.Core.Bool.{false, _&&_};
 ghost use mathlib.Core.List.{_∷_};
-ghost use Prim.Native.Nat.{ℕ, _+_, _-_, _*_, _/_, _%_, _^_, _<_, _≤_};
+ghost use Prim.Native.Nat.{_+_, _-_, _*_, _/_, _%_, _^_, _<_, _≤_};
 ghost use lib.Dec.{leb};
 ghost use Rattle.std.specs.Slices.{found};
-ghost use Rattle.diagram.specs.Letters.{letter-code};
 ghost use Rattle.diagram.specs.Words.{letters-of, spells, peeled, pushed};
 use crate::letters::Letter;
 

@@ -24,7 +24,7 @@ use Rattle.diagram.specs.Acceptance.{Accepted, Acceptable, Normal, normal}
 use Rattle.diagram.specs.Records.{edge-of, store-of, edge-record, diamonds-of, spelled-edge, spelled-diamonds, accepted-in, constant-record, with-letter}
 use Rattle.diagram.proofs.Laws.{arity-full, sense-flat}
 use Rattle.diagram.proofs.Split.{flat-accepted}
-use Rattle.diagram.proofs.Told.{even-full}
+use Rattle.diagram.proofs.Told.{even-variable, arity-variable}
 use Rattle.diagram.proofs.Main.{insert-back}
 use Rattle.diagram.proofs.Sound.{insert-sound}
 use Rattle.diagram.proofs.Bridge.{arity-edge}
@@ -63,16 +63,6 @@ constants-fit D ds n h =
     record { low-in = constant-in D ds n false (omega arith); high-in = constant-in D ds n true (omega arith); level = p ∙ sym (constant-arity D ds n true); short = omega arith }
 
 -- Variables --
-
-pub arity-variable : (n i : ℕ) → arity (variable n i) ≡ n
-arity-variable zero i = refl
-arity-variable (suc n) zero = ap suc (arity-full n false)
-arity-variable (suc n) (suc i) = ap suc (arity-variable n i)
-
-pub even-variable : (n i : ℕ) → Even (variable n i)
-even-variable zero i = tt
-even-variable (suc n) zero = (even-full n false, even-full n true, arity-full n false ∙ sym (arity-full n true))
-even-variable (suc n) (suc i) = (even-variable n i, even-variable n i, refl)
 
 -- the first mark
 pub inserted-first : (D : Meaning) → Lawful D → (ds : List DiamondRecord) → normal D (store-of ds) ≡ true → (n : ℕ) → 0 < n →
