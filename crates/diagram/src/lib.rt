@@ -1,8 +1,6 @@
-// Decision diagrams with letters: dialects, edges, what they mean, and which are accepted.
+// Decision diagrams with letters: edges, what they mean, which are accepted, and the theorems.
 pub mod accepting;
 pub mod alphabet;
-pub mod builtin;
-pub mod dialects;
 pub mod edges;
 pub mod lawful;
 pub mod letters;
@@ -10,7 +8,6 @@ pub mod looks;
 pub mod making;
 pub mod meanings;
 pub mod printing;
-pub mod profiles;
 pub mod refusals;
 pub mod refusing;
 pub mod theorems;

@@ -21,8 +21,8 @@ use cache::tables::Table;
 use diagram::accepting::arity;
 use diagram::edges::Diamond;
 use diagram::edges::Edge;
-use diagram::profiles::Profile;
 use diagram::refusals::Refusal;
+use dialect::profiles::Profile;
 use std::alloc::AllocError;
 use std::alloc::Global;
 

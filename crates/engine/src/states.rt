@@ -9,7 +9,7 @@ ghost use Rattle.cache.specs.Tables.{table-places};
 ghost use Rattle.diagram.specs.Records.{store-of, spelled-diamonds};
 use cache::tables::Table;
 use diagram::edges::Diamond;
-use diagram::profiles::Profile;
+use dialect::profiles::Profile;
 
 #[derive(Drop)]
 pub struct State {

@@ -1,19 +1,19 @@
 // Prints, for each built-in dialect, the edges of some constants and variables.
 use cache::blank::Blank;
 use cache::blank::BlankCache;
-use diagram::builtin::Dialect1;
-use diagram::builtin::Dialect1Dialect;
-use diagram::builtin::Dialect2;
-use diagram::builtin::Dialect2Dialect;
-use diagram::builtin::Dialect3;
-use diagram::builtin::Dialect3Dialect;
-use diagram::builtin::Dialect4;
-use diagram::builtin::Dialect4Dialect;
-use diagram::builtin::Dialect5;
-use diagram::builtin::Dialect5Dialect;
 use diagram::printing::EdgeDisplay;
 use diagram::printing::RefusalError;
-use diagram::profiles::Profile;
+use dialect::builtin::Dialect1;
+use dialect::builtin::Dialect1Dialect;
+use dialect::builtin::Dialect2;
+use dialect::builtin::Dialect2Dialect;
+use dialect::builtin::Dialect3;
+use dialect::builtin::Dialect3Dialect;
+use dialect::builtin::Dialect4;
+use dialect::builtin::Dialect4Dialect;
+use dialect::builtin::Dialect5;
+use dialect::builtin::Dialect5Dialect;
+use dialect::profiles::Profile;
 use engine::engines::Engine;
 use std::error::AnyError;
 

@@ -1,10 +1,10 @@
 // The five built-in dialects.
 ghost use mathlib.Core.Path.{_≡_};
 ghost use mathlib.Core.List.{[], _∷_};
 ghost use Rattle.diagram.specs.Builtin.{dialect1, dialect2, dialect3, dialect4, dialect5};
 use crate::dialects::Dialect;
-use crate::letters::Letter;
-use crate::letters::Look;
+use diagram::letters::Letter;
+use diagram::letters::Look;
 
 // u, not negating.
 pub struct Dialect1;

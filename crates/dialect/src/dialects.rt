@@ -1,10 +1,10 @@
 // The open interface of dialects.
 ghost use mathlib.Core.Path.{_≡_};
 ghost use mathlib.Core.Bool.{true};
 ghost use Rattle.diagram.specs.declared.meanings.Meaning.{Meaning};
 ghost use Rattle.diagram.specs.Dialects.{has-letter, answer-at, lawful};
-use crate::letters::Letter;
-use crate::letters::Look;
+use diagram::letters::Letter;
+use diagram::letters::Look;
 
 // A dialect: its constants, its letters and its answers. Its meaning is all of that as data, and every dialect is lawful.
 pub trait Dialect {

@@ -2,13 +2,13 @@
 ghost use mathlib.Core.Path.{_≡_};
 ghost use mathlib.Core.Bool.{true};
 ghost use Rattle.std.specs.Options.{mapped, whenTrue};
 ghost use Rattle.diagram.specs.Dialects.{lawful, Lawful};
 use crate::dialects::Dialect;
-use crate::letters::Letter;
-use crate::letters::Look;
-use crate::meanings::Answers;
-use crate::meanings::Letters;
-use crate::meanings::Meaning;
+use diagram::letters::Letter;
+use diagram::letters::Look;
+use diagram::meanings::Answers;
+use diagram::meanings::Letters;
+use diagram::meanings::Meaning;
 
 // The meaning of a lawful dialect.
 #[derive(Clone, Copy)]

@@ -2,9 +2,9 @@
 use mathlib.Core.Path.{_≡_, sym, subst}
 use mathlib.Core.Bool.{true}
 use borrow.Author.Needs.{needs}
 use Rattle.diagram.specs.declared.meanings.Meaning.{Meaning}
 use Rattle.diagram.specs.Dialects.{lawful}
-use Rattle.diagram.proofs.profiles.Profile.of.Needs as need
+use Rattle.dialect.proofs.profiles.Profile.of.Needs as need
 
 pub ghost-result : need.ghost-result
 ghost-result g c =
