@@ -14,19 +14,23 @@ use Rattle.diagram.specs.declared.edges.Diamond.{Diamond}
 use Rattle.diagram.specs.declared.meanings.Meaning.{Meaning}
 use Rattle.diagram.specs.declared.refusals.Refusal.{Refusal}
 use Rattle.diagram.specs.declared.refusals.Refusal.the-variants.{Full}
-use Rattle.diagram.specs.Rules.{Rule}
+use Rattle.diagram.specs.Rules.{Rule, variable}
 use Rattle.diagram.specs.Edges.{Store}
 use Rattle.diagram.specs.Making.{Made, insert}
-use Rattle.diagram.specs.Acceptance.{Shallow, shallow}
-use Rattle.diagram.specs.Records.{store-of, edge-record, diamonds-of, diamond-record}
+use Rattle.diagram.specs.Acceptance.{Shallow, normal, shallow}
+use Rattle.diagram.specs.Records.{store-of, edge-record, diamonds-of, diamond-record, spelled-diamonds}
 use Rattle.diagram.specs.RecordTheorems.{Answered}
+use Rattle.dialect.specs.declared.profiles.Profile.{Profile}
+use Rattle.diagram.proofs.Tests.{tested}
+use Rattle.diagram.proofs.Made.{shallow-read}
+use Rattle.diagram.proofs.Told.{even-variable, arity-variable}
 use Rattle.diagram.proofs.Decides.{normal-right}
 use Rattle.diagram.proofs.Limits.{insert-shallow}
 use Rattle.diagram.proofs.Recorded.{store-there}
 use Rattle.diagram.proofs.Recording.{answer-accepted}
-use Rattle.engine.specs.Steps.{Outcome, kept, inserted}
+use Rattle.engine.specs.Steps.{Outcome, kept, inserted, variable-step}
 use Rattle.engine.specs.Laws.{Held-well, Inserted-right, Inserted-refused, Constants-inserted}
-use Rattle.engine.proofs.Marks.{inserted-full}
+use Rattle.engine.proofs.Marks.{inserted-full, variable-answer}
 
 -- an answer that was kept is of the store that was made, which is small enough
 kept-parts : (ds : List Diamond) (m : Made) (e : Edge) (es : List Diamond) → _≡_ {A = Outcome} (kept ds m) (Ok e, es) → (edge-record (m .1) ≡ e) × (diamonds-of (m .0) ≡ es) × (length (m .0) ≤ 1024)
@@ -71,3 +75,13 @@ inserted-refused D ds f x es p = go (leb (length (insert D (store-of ds) f .0)) 
 
 pub constants-inserted : Constants-inserted
 constants-inserted D ds w n b = inserted-full D (w .lawful) ds (w .normal .0) (w .normal .1) (w .few) n b
+
+-- what the ghost fields of an engine's state say together
+pub held-well : (p : Profile) (ds : List Diamond) → normal (p .meaning) (store-of ds) ≡ true → spelled-diamonds ds ≡ true → shallow (store-of ds) ≡ true → length ds ≤ 1024 → Held-well (p .meaning) ds
+held-well p ds n h l f = record { lawful = tested (p .meaning) .0 (p .sound); normal = (n, h); shallow = shallow-read (store-of ds) l; few = f }
+
+-- a variable that is answered is answered rightly
+pub variable-right : (D : Meaning) (ds : List Diamond) → Held-well D ds → (n i : ℕ) (e : Edge) (es : List Diamond) → n ≤ 20 → i < n → _≡_ {A = Outcome} (variable-step D ds n i) (Ok e, es) → Answered D ds (variable n i) es e
+variable-right D ds w n i e es l h p =
+    let a = arity-variable n i in
+    inserted-right D ds w (variable n i) (even-variable n i) (omega arith) e es (sym (variable-answer D ds n i l h) ∙ p) .0

@@ -9,6 +9,8 @@ ghost use Rattle.std.specs.Vec.{made};
 ghost use Rattle.std.specs.declared.option.Option.the-variants.{None};
 ghost use Rattle.std.specs.declared.result.Result.the-variants.{Ok, Err};
 ghost use Rattle.diagram.specs.declared.refusals.Refusal.the-variants.{ArityOver, NoVariable};
+ghost use Rattle.diagram.specs.Rules.{variable};
+ghost use Rattle.diagram.specs.RecordTheorems.{Answered};
 ghost use Rattle.cache.specs.declared.entries.Key.{Key};
 ghost use Rattle.cache.specs.Tables.{table-places};
 ghost use Rattle.engine.specs.Laws.{Held-well};
@@ -106,10 +108,11 @@ impl<C: Cache + Drop> Engine<C> {
         Ok(self.state.profile.meaning().constant(n, value))
     }
 
-    // Mark i of `arity` marks.
+    // Mark i of `arity` marks: an accepted edge that means it. Edges accepted before stay accepted and mean what they meant.
     pub fn variable(&mut self, arity: u32, i: u32) -> Result<Edge, Refusal>
         ensures answer { λ r. ⌜ r ≡ variable-step (now (self .entry) .state .profile .meaning) (vec-items (now (self .entry) .state .diamonds)) arity i .0 ⌝ }
         ensures diamonds { λ _. ⌜ vec-items (now (self .exit) .state .diamonds) ≡ variable-step (now (self .entry) .state .profile .meaning) (vec-items (now (self .entry) .state .diamonds)) arity i .1 ⌝ }
+        ensures right { λ r. ⌜ made r (λ e. Answered (now (self .entry) .state .profile .meaning) (vec-items (now (self .entry) .state .diamonds)) (variable arity i) (vec-items (now (self .exit) .state .diamonds)) e) ⌝ }
         ensures profile { λ _. ⌜ now (self .exit) .state .profile ≡ now (self .entry) .state .profile ⌝ }
         ensures still { λ r. ⌜ (eqb (refused-number r) 7 ≡ false → (now (self .exit) .cache ≡ now (self .entry) .cache) × (now (self .exit) .state .table ≡ now (self .entry) .state .table)) ⌝ }
         ensures map { λ r. ⌜ ((k : Key) → C·Cache .held (now (self .exit) .cache) (now (self .exit) .state .table) k ≡ map-after r (C·Cache .held (now (self .entry) .cache) (now (self .entry) .state .table) k)) ⌝ }
