@@ -13,7 +13,7 @@ use Rattle.diagram.specs.declared.letters.Letter.{Letter}
 use Rattle.diagram.specs.declared.meanings.Meaning.{Meaning}
 use Rattle.diagram.specs.declared.edges.Edge.{Edge as EdgeRecord}
 use Rattle.diagram.specs.declared.edges.Diamond.{Diamond as DiamondRecord}
-use Rattle.diagram.specs.Rules.{Rule, _⋆_, arity, Even}
+use Rattle.diagram.specs.Rules.{Rule, _⋆_, arity, Balanced}
 use Rattle.diagram.specs.Letters.{letter-code}
 use Rattle.diagram.specs.declared.letters.Letter.the-variants.{U}
 use Rattle.diagram.specs.Words.{numeral, letters-of, spells}
@@ -114,7 +114,7 @@ make-equal : (D : Meaning) (s : Store) (e : Edge) → make D s e e ≡ (s, put U
 make-equal D s e = let h = same-refl e in simp h
 
 -- a rule that does not look at its first mark is inserted as u on the rule of the others
-pub insert-double : (D : Meaning) → Lawful D → (s : Store) → Normal D s → (f : Rule) → Even f → insert D s (f ⋆ f) ≡ (insert D s f .0, put U (insert D s f .1))
+pub insert-double : (D : Meaning) → Lawful D → (s : Store) → Normal D s → (f : Rule) → Balanced f → insert D s (f ⋆ f) ≡ (insert D s f .0, put U (insert D s f .1))
 insert-double D law s ns f ev =
     let m : Made = insert D s f in
     let x = insert-sound D law s ns f ev in

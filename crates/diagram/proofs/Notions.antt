@@ -8,7 +8,7 @@ use lib.Dec.{eqb}
 use lib.ListN.{length}
 use Rattle.diagram.specs.declared.letters.Letter.{Letter}
 use Rattle.diagram.specs.declared.meanings.Meaning.{Meaning}
-use Rattle.diagram.specs.Rules.{Rule, constant, _⋆_, arity, Even}
+use Rattle.diagram.specs.Rules.{Rule, constant, _⋆_, arity, Balanced}
 use Rattle.diagram.specs.Letters.{on}
 use Rattle.diagram.specs.Words.{numeral, letters-of, Spells}
 use Rattle.diagram.specs.Edges.{Target, terminal, diamond, diamond-at, Edge, edge, pair, Store, rule-of}
@@ -65,7 +65,7 @@ Lower (n ∷ s) = Lower s × (Within s (n .low .target) × Within s (n .high .ta
 
 -- inserting a rule of at most 20 marks adds no diamond of more
 abbrev pub Insert-shallow : Type 0
-Insert-shallow = (D : Meaning) → Lawful D → (s : Store) → Normal D s → Shallow s → (f : Rule) → Even f → arity f ≤ 20 → Shallow (insert D s f .0)
+Insert-shallow = (D : Meaning) → Lawful D → (s : Store) → Normal D s → Shallow s → (f : Rule) → Balanced f → arity f ≤ 20 → Shallow (insert D s f .0)
 
 -- accepted edges that mean the same are the same
 abbrev pub Canonical : Type 0

@@ -10,7 +10,7 @@ use Rattle.std.proofs.shelf.Tests.{and-parts, and-from}
 use Rattle.diagram.specs.declared.meanings.Meaning.{Meaning}
 use Rattle.diagram.specs.declared.edges.Edge.{Edge as EdgeRecord}
 use Rattle.diagram.specs.declared.edges.Diamond.{Diamond as DiamondRecord}
-use Rattle.diagram.specs.Rules.{Rule, arity, Even, value}
+use Rattle.diagram.specs.Rules.{Rule, arity, Balanced, value}
 use Rattle.diagram.specs.Edges.{Edge, Diamond, Store, rule-of}
 use Rattle.diagram.specs.Dialects.{Lawful}
 use Rattle.diagram.specs.Making.{Made, insert}
@@ -125,7 +125,7 @@ answer-accepted D law ds n f ev i =
     }
 
 -- inserting a rule of at most 20 marks leaves no diamond of more than 20
-pub answer-shallow : (D : Meaning) → Lawful D → (ds : List DiamondRecord) → Normal-in D ds → shallow (store-of ds) ≡ true → (f : Rule) → Even f → arity f ≤ 20 →
+pub answer-shallow : (D : Meaning) → Lawful D → (ds : List DiamondRecord) → Normal-in D ds → shallow (store-of ds) ≡ true → (f : Rule) → Balanced f → arity f ≤ 20 →
     shallow (store-of (diamonds-of (insert D (store-of ds) f .0))) ≡ true
 answer-shallow D law ds n h f ev i =
     let s = store-of ds in

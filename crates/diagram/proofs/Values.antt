@@ -5,7 +5,7 @@ use Prim.Native.Nat.{ℕ, zero, suc, _+_, _*_, _/_, _%_, _^_, _<_}
 use native.Mathlib.Omega.{arith}
 use native.Mathlib.Nat.{pow-succ', div-div-eq-div-mul}
 use lib.Dec.{eqb}
-use Rattle.diagram.specs.Rules.{Rule, constant, _⋆_, arity, Even, negate, full, value, pointwise, variable}
+use Rattle.diagram.specs.Rules.{Rule, constant, _⋆_, arity, Balanced, negate, full, value, pointwise, variable}
 use Rattle.diagram.specs.Theorems.{Values-tell, Rules-valued}
 
 pub value-low : (f g : Rule) (a : ℕ) → value (f ⋆ g) (2 * a) ≡ value f a
@@ -66,7 +66,7 @@ value-negate (f ⋆ g) a = ap₂ (cond (eqb (a % 2) 0)) (value-negate f (a / 2))
     go true x y = refl
     go false x y = refl
 
-value-pointwise : (op : Bool → Bool → Bool) (f g : Rule) → Even f → Even g → arity f ≡ arity g → (a : ℕ) → value (pointwise op f g) a ≡ op (value f a) (value g a)
+value-pointwise : (op : Bool → Bool → Bool) (f g : Rule) → Balanced f → Balanced g → arity f ≡ arity g → (a : ℕ) → value (pointwise op f g) a ≡ op (value f a) (value g a)
 value-pointwise op (constant b) (constant c) ef eg e a = refl
 value-pointwise op (constant b) (g ⋆ g′) ef eg e a = absurd (omega arith)
 value-pointwise op (f ⋆ f′) (constant c) ef eg e a = absurd (omega arith)

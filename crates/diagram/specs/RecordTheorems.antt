@@ -10,7 +10,7 @@ use Rattle.diagram.specs.declared.letters.Letter.{Letter}
 use Rattle.diagram.specs.declared.meanings.Meaning.{Meaning}
 use Rattle.diagram.specs.declared.edges.Edge.{Edge as EdgeRecord}
 use Rattle.diagram.specs.declared.edges.Diamond.{Diamond as DiamondRecord}
-use Rattle.diagram.specs.Rules.{Rule, arity, Even, value}
+use Rattle.diagram.specs.Rules.{Rule, arity, Balanced, value}
 use Rattle.diagram.specs.Edges.{put, rule-of}
 use Rattle.diagram.specs.Dialects.{Lawful}
 use Rattle.diagram.specs.Making.{Made, written, choose, find, insert, count}
@@ -64,7 +64,7 @@ pub record Answered (D : Meaning) (ds : List DiamondRecord) (f : Rule) (es : Lis
 -- inserting a rule of at most 20 marks answers it rightly
 abbrev pub Answer-accepted : Type 0
 Answer-accepted =
-    (D : Meaning) → Lawful D → (ds : List DiamondRecord) → Normal-in D ds → (f : Rule) → Even f → arity f ≤ 20 →
+    (D : Meaning) → Lawful D → (ds : List DiamondRecord) → Normal-in D ds → (f : Rule) → Balanced f → arity f ≤ 20 →
     let m : Made = insert D (store-of ds) f in
     Answered D ds f (diamonds-of (m .0)) (edge-record (m .1))
 

@@ -16,9 +16,9 @@ arity (constant b) = 0
 arity (f ⋆ g) = suc (arity f)
 
 -- both halves have as many marks, all the way down: only such a tree is a function of `arity` marks
-abbrev pub Even : Rule → Type 0
-Even (constant b) = Unit {0}
-Even (f ⋆ g) = Even f × Even g × (arity f ≡ arity g)
+abbrev pub Balanced : Rule → Type 0
+Balanced (constant b) = Unit {0}
+Balanced (f ⋆ g) = Balanced f × Balanced g × (arity f ≡ arity g)
 
 -- the value of a rule at an assignment, a number whose bit of worth 2^i is mark i
 abbrev pub value : Rule → ℕ → Bool

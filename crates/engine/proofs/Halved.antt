@@ -15,7 +15,7 @@ use Rattle.diagram.specs.declared.edges.Diamond.{Diamond as DiamondRecord}
 use Rattle.diagram.specs.declared.edges.Target.{Target as TargetRecord}
 use Rattle.diagram.specs.declared.edges.Target.the-variants.{Zero, One, Diamond as DiamondNumber}
 use Rattle.diagram.specs.declared.meanings.Meaning.{Meaning}
-use Rattle.diagram.specs.Rules.{Rule, _⋆_, arity, Even, value}
+use Rattle.diagram.specs.Rules.{Rule, _⋆_, arity, Balanced, value}
 use Rattle.diagram.specs.Words.{letters-of, spells, peeled}
 use Rattle.diagram.specs.Edges.{Edge, edge, Diamond, Store, foot, sign, spell, diamond-rule, rule-of, diamond-at, flip}
 use Rattle.diagram.specs.Dialects.{Lawful}
@@ -24,7 +24,7 @@ use Rattle.diagram.specs.Acceptance.{Within, Accepted, Acceptable, Normal, norm
 use Rattle.diagram.specs.Records.{target-of, edge-of, diamond-of, store-of, arity-in, spelled-edge, spelled-diamonds, accepted-in, halves-on, other-mark}
 use Rattle.diagram.proofs.Bridge.{arity-edge, nth}
 use Rattle.diagram.proofs.Notions.{Halves}
-use Rattle.diagram.proofs.Told.{even-rule}
+use Rattle.diagram.proofs.Told.{balanced-rule}
 use Rattle.diagram.proofs.Halving.{halves-right}
 use Rattle.diagram.proofs.Decides.{normal-right}
 use Rattle.diagram.proofs.Placed.{arity-record, arity-step, no-diamond}
@@ -153,7 +153,7 @@ module _ (D : Meaning) (law : Lawful D) (ds : List DiamondRecord) (ns : normal D
       let r = halves .rule in
       let p = ap arity r in
       let m = arity-record (store-of ds) e ∙ a .marks in
-      let ev = subst Even r (even-rule D (store-of ds) (normal-right D (store-of ds) .0 ns) (edge-of e)) in
+      let ev = subst Balanced r (balanced-rule D (store-of ds) (normal-right D (store-of ds) .0 ns) (edge-of e)) in
       let q = ev .2 in
       (omega arith, omega arith)
 

@@ -23,7 +23,7 @@ use Rattle.diagram.specs.RecordTheorems.{Answered}
 use Rattle.dialect.specs.declared.profiles.Profile.{Profile}
 use Rattle.diagram.proofs.Tests.{tested}
 use Rattle.diagram.proofs.Made.{shallow-read}
-use Rattle.diagram.proofs.Told.{even-variable, arity-variable}
+use Rattle.diagram.proofs.Told.{balanced-variable, arity-variable}
 use Rattle.diagram.proofs.Decides.{normal-right}
 use Rattle.diagram.proofs.Limits.{insert-shallow}
 use Rattle.diagram.proofs.Recorded.{store-there}
@@ -84,4 +84,4 @@ held-well p ds n h l f = record { lawful = tested (p .meaning) .0 (p .sound); no
 pub variable-right : (D : Meaning) (ds : List Diamond) → Held-well D ds → (n i : ℕ) (e : Edge) (es : List Diamond) → n ≤ 20 → i < n → _≡_ {A = Outcome} (variable-step D ds n i) (Ok e, es) → Answered D ds (variable n i) es e
 variable-right D ds w n i e es l h p =
     let a = arity-variable n i in
-    inserted-right D ds w (variable n i) (even-variable n i) (omega arith) e es (sym (variable-answer D ds n i l h) ∙ p) .0
+    inserted-right D ds w (variable n i) (balanced-variable n i) (omega arith) e es (sym (variable-answer D ds n i l h) ∙ p) .0

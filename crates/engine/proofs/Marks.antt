@@ -16,7 +16,7 @@ use Rattle.diagram.specs.declared.edges.Diamond.{Diamond as DiamondRecord}
 use Rattle.diagram.specs.declared.meanings.Meaning.{Meaning}
 use Rattle.diagram.specs.declared.refusals.Refusal.{Refusal}
 use Rattle.diagram.specs.declared.refusals.Refusal.the-variants.{Full}
-use Rattle.diagram.specs.Rules.{Rule, _⋆_, arity, Even, full, variable}
+use Rattle.diagram.specs.Rules.{Rule, _⋆_, arity, Balanced, full, variable}
 use Rattle.diagram.specs.Edges.{Edge, Store, put, diamond-rule, rule-of, foot}
 use Rattle.diagram.specs.Dialects.{Lawful}
 use Rattle.diagram.specs.Making.{Made, flat, make, insert}
@@ -24,7 +24,7 @@ use Rattle.diagram.specs.Acceptance.{Accepted, Acceptable, Normal, normal}
 use Rattle.diagram.specs.Records.{edge-of, store-of, edge-record, diamonds-of, spelled-edge, spelled-diamonds, accepted-in, constant-record, with-letter}
 use Rattle.diagram.proofs.Laws.{arity-full, sense-flat}
 use Rattle.diagram.proofs.Split.{flat-accepted}
-use Rattle.diagram.proofs.Told.{even-variable, arity-variable}
+use Rattle.diagram.proofs.Told.{balanced-variable, arity-variable}
 use Rattle.diagram.proofs.Main.{insert-back}
 use Rattle.diagram.proofs.Sound.{insert-sound}
 use Rattle.diagram.proofs.Bridge.{arity-edge}
@@ -118,7 +118,7 @@ module _ (D : Meaning) (law : Lawful D) (ds : List DiamondRecord) (ns : normal D
   doubled : insert D (store-of ds) (variable n i) ≡ (before .0, put U (before .1))
   doubled =
       ap (insert D (store-of ds)) (later n i h l)
-      ∙ insert-double D law (store-of ds) (normal-right D (store-of ds) .0 ns) (variable (n - 1) (i - 1)) (even-variable (n - 1) (i - 1))
+      ∙ insert-double D law (store-of ds) (normal-right D (store-of ds) .0 ns) (variable (n - 1) (i - 1)) (balanced-variable (n - 1) (i - 1))
 
   pub inserted-later : (r : EdgeRecord) (xs : List DiamondRecord) → _≡_ {A = Outcome} (Ok r, xs) (inserted D ds (variable (n - 1) (i - 1))) →
       inserted D ds (variable n i) ≡ (Ok (edge-record (put U (edge-of r))), xs)
@@ -135,7 +135,7 @@ module _ (D : Meaning) (law : Lawful D) (ds : List DiamondRecord) (ns : normal D
       with-letter U r ≡ Some (edge-record (put U (edge-of r)))
   later-set r xs m p =
       let k = kept-put ds before r xs p .0 in
-      let x = insert-sound D law (store-of ds) (normal-right D (store-of ds) .0 ns) (variable (n - 1) (i - 1)) (even-variable (n - 1) (i - 1)) in
+      let x = insert-sound D law (store-of ds) (normal-right D (store-of ds) .0 ns) (variable (n - 1) (i - 1)) (balanced-variable (n - 1) (i - 1)) in
       let a : arity (rule-of (before .0) (before .1)) ≡ n - 1 = ap arity (x .rule) ∙ arity-variable (n - 1) (i - 1) in
       let b = arity-edge (before .0) (before .1) in
       let c : r .length ≡ length (before .1 .word) = ap (λ (e : EdgeRecord). e .length) k in

@@ -10,7 +10,7 @@ use Rattle.diagram.specs.declared.edges.Diamond.{Diamond}
 use Rattle.diagram.specs.declared.meanings.Meaning.{Meaning}
 use Rattle.diagram.specs.declared.refusals.Refusal.{Refusal}
 use Rattle.diagram.specs.declared.refusals.Refusal.the-variants.{Full}
-use Rattle.diagram.specs.Rules.{Rule, arity, Even, full}
+use Rattle.diagram.specs.Rules.{Rule, arity, Balanced, full}
 use Rattle.diagram.specs.Dialects.{Lawful}
 use Rattle.diagram.specs.Making.{insert}
 use Rattle.diagram.specs.Acceptance.{Shallow}
@@ -30,7 +30,7 @@ pub record Held-well (D : Meaning) (ds : List Diamond) : Type 0 where
 -- earlier edges are still accepted and mean what they meant; and the diamonds are held well
 abbrev pub Inserted-right : Type 0
 Inserted-right =
-    (D : Meaning) (ds : List Diamond) → Held-well D ds → (f : Rule) → Even f → arity f ≤ 20 → (e : Edge) (es : List Diamond) →
+    (D : Meaning) (ds : List Diamond) → Held-well D ds → (f : Rule) → Balanced f → arity f ≤ 20 → (e : Edge) (es : List Diamond) →
     _≡_ {A = Outcome} (inserted D ds f) (Ok e, es) → Answered D ds f es e × Held-well D es
 
 -- it is refused only by 7, only where there would be more than 1,024 diamonds, and the diamonds are then as they were
