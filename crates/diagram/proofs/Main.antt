@@ -8,7 +8,7 @@ use Rattle.diagram.specs.declared.meanings.Meaning.{Meaning}
 use Rattle.diagram.specs.Dialects.{Lawful}
 use Rattle.diagram.specs.Making.{flat, Made, make, insert, low-half, high-half}
 use Rattle.diagram.specs.Acceptance.{Accepted, Normal}
-use Rattle.diagram.proofs.Notions.{Halves, Canonical}
+use Rattle.diagram.proofs.Notions.{Halves, One-edge}
 use Rattle.diagram.specs.Theorems.{Insert-back}
 use Rattle.diagram.proofs.Split.{Leaf, split}
 
@@ -40,6 +40,6 @@ main D law s ns (f ⋆ g) e a p = main-join D s f g e p (main D law s ns f) (mai
 pub insert-back : Insert-back
 insert-back D law s ns e a = main D law s ns (rule-of s e) e a refl
 
-pub canonical : Canonical
-canonical D law s ns d e ad ae p =
+pub one-edge : One-edge
+one-edge D law s ns d e ad ae p =
     ap (λ (m : Made). m .1) (sym (main D law s ns (rule-of s e) d ad p) ∙ insert-back D law s ns e ae)

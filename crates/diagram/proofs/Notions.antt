@@ -68,8 +68,8 @@ abbrev pub Insert-shallow : Type 0
 Insert-shallow = (D : Meaning) → Lawful D → (s : Store) → Normal D s → Shallow s → (f : Rule) → Balanced f → arity f ≤ 20 → Shallow (insert D s f .0)
 
 -- accepted edges that mean the same are the same
-abbrev pub Canonical : Type 0
-Canonical =
+abbrev pub One-edge : Type 0
+One-edge =
     (D : Meaning) → Lawful D → (s : Store) → Normal D s → (d e : Edge) → Accepted D s d → Accepted D s e → rule-of s d ≡ rule-of s e → d ≡ e
 
 -- an edge is accepted just where inserting what it means changes nothing and gives the edge

@@ -18,7 +18,7 @@ use Rattle.diagram.proofs.Notions.{Accepted-told}
 use Rattle.diagram.specs.Theorems.{Edges-told, Rules-formed}
 use Rattle.diagram.proofs.Laws.{arity-negate, arity-full}
 use Rattle.diagram.proofs.Values.{values-tell}
-use Rattle.diagram.proofs.Main.{insert-back, canonical}
+use Rattle.diagram.proofs.Main.{insert-back, one-edge}
 use Rattle.diagram.proofs.Sound.{insert-sound}
 
 pub balanced-full : (n : ℕ) (b : Bool) → Balanced (full n b)
@@ -104,7 +104,7 @@ balanced-rule D s ns e = balanced-meaning (diamond-rule s) (balanced-diamond D s
 
 pub edges-told : Edges-told
 edges-told D law s ns d e ad ae n h =
-    canonical D law s ns d e ad ae (values-tell (rule-of s d) (rule-of s e) (balanced-rule D s ns d) (balanced-rule D s ns e) n h)
+    one-edge D law s ns d e ad ae (values-tell (rule-of s d) (rule-of s e) (balanced-rule D s ns d) (balanced-rule D s ns e) n h)
 
 pub accepted-told : Accepted-told
 accepted-told D law s ns e = (
