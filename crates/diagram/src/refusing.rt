@@ -1,5 +1,5 @@
 // What may be asked of a refusal.
-ghost use Rattle.std.specs.Prelude.{◌≡◌, Decides};
+ghost use Rattle.std.specs.Prelude.{◌≡◌, ◌↔◌, IsTrue, nat_eq};
 ghost use Rattle.diagram.specs.Refusals.{refusal_number, refusal_values, first_of};
 ghost use Rattle.std.specs.Cmp.Rules.{comparing};
 ghost use Rattle.std.proofs.Common.{rules};
@@ -48,11 +48,14 @@ impl Refusal {
 }
 
 impl PartialEq for Refusal {
-    ghost equals = { λ x y r. Decides r (x ≡ y) };
+    ghost eq = { eq_of_both (on refusal_number nat_eq) (on (λ x. first_of (refusal_values x)) (option_eq nat_eq)) };
 
     ghost laws = { Keys.partial_equiv_from_equiv (Prim.search (comparing, rules)) };
 
-    fn eq(&self, other: &Refusal) -> bool {
+    fn eq(&self, other: &Refusal) -> bool
+        ensures by_parts { result ≡ eq_of_both (on refusal_number nat_eq) (on (λ x. first_of (refusal_values x)) (option_eq nat_eq)) self.now other.now }
+        ensures same { IsTrue result ↔ (self.now ≡ other.now) }
+    {
         self.number() == other.number() && self.place() == other.place()
     }
 }
