@@ -1,5 +1,5 @@
 -- The test of a dialect, read and met.
-use Rattle.std.proofs.Common.{◌≡◌, ℕ, Bool, true, false, cond, not, ◌&&◌, ltb, Some, None, Option, sym, refl, ap, subst, arith, ltb→lt, lt→ltb}
+use Rattle.std.proofs.Common.{◌≡◌, ℕ, Bool, true, false, cond, not, ◌&&◌, Some, None, Option, sym, refl, ap, subst, arith}
 use Rattle.diagram.specs.declared.letters.Letter.{Letter}
 use Rattle.diagram.specs.declared.letters.Letter.TheVariants.{U, X, C00, C01, C10, C11}
 use Rattle.diagram.specs.Letters.{letter_code}
@@ -8,7 +8,7 @@ use Rattle.diagram.specs.declared.letters.Look.TheVariants.{ZeroOne, OneZero, Ze
 use Rattle.diagram.specs.Dialects.{fits, turn, Lawful, partners, every_look, every_letter, same_answer, right_answer, right_look, lawful, has_letter, answer_at}
 use Rattle.diagram.specs.declared.meanings.Meaning.{Meaning}
 use Rattle.diagram.specs.Theorems.{LawfulTested}
-use Rattle.diagram.proofs.Laws.{and_left, and_right, both, true_T, T_true, eqb_same, letter_eq}
+use Rattle.diagram.proofs.Laws.{and_left, and_right, both, eqb_same, letter_eq}
 
 look_read : (p : Look → Bool) → every_look p ≡ true → (k : Look) → p k ≡ true
 look_read p e ZeroOne = and_left (p ZeroOne) _ e

@@ -1,4 +1,6 @@
 // Decision diagrams with letters: edges, what they mean, which are accepted, and the theorems.
+#![tactic(auto)]
+
 pub mod accepting;
 pub mod alphabet;
 pub mod edges;

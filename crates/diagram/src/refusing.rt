@@ -1,5 +1,7 @@
 // What may be asked of a refusal.
 ghost use Rattle.std.specs.Prelude.{◌≡◌, ◌↔◌, IsTrue, nat_eq};
+ghost use Rattle.std.specs.Ordering.{eq_of_both, on};
+ghost use Rattle.std.specs.Option.{option_eq};
 ghost use Rattle.diagram.specs.Refusals.{refusal_number, refusal_values, first_of};
 ghost use Rattle.std.specs.Cmp.Rules.{comparing};
 ghost use Rattle.std.proofs.Common.{rules};

@@ -1,4 +1,4 @@
-use Rattle.std.proofs.Common.{◌≡◌, ℕ, ◌-◌, get_or, take, sym, ap, ◌∙◌, arith, rules}
+use Rattle.std.proofs.Common.{◌≡◌, ℕ, ◌-◌, get_or, take, sym, ap, ◌∙◌, arith}
 use Rattle.diagram.specs.Rules.{arity}
 use Rattle.diagram.specs.Edges.{foot, diamond_rule}
 use Rattle.diagram.specs.Records.{target_of, store_of}
@@ -19,5 +19,5 @@ returns-in-Diamond t c =
       small = omega (arith, c.target_arity.ensures.bound);
     }
 
-pub returns-in-default : goal.returns-in-default
-returns-in-default t c = record { value = rw c.in-Diamond.is (sym (arity_absent c.args.diamonds.now c.in-Diamond.k c.if-k-diamonds.false)); bound = omega arith; small = omega arith }
+pub returns-in_default : goal.returns-in_default
+returns-in_default t c = record { value = rw c.in-Diamond.is (sym (arity_absent c.args.diamonds.now c.in-Diamond.k c.if-k-diamonds.false)); bound = omega arith; small = omega arith }

@@ -1,5 +1,5 @@
 use Rattle.std.proofs.Common.{length}
 use Rattle.diagram.proofs.accepting.+target_arity.Given as goal
 
-abbrev pub decreases-target-arity : goal.decreases-target_arity
-decreases-target-arity l = length l.diamonds.now
+abbrev pub decreases-target_arity : goal.decreases-target_arity
+decreases-target_arity l = length l.diamonds.now

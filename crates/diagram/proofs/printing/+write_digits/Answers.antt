@@ -1,4 +1,4 @@
-use Rattle.std.proofs.Common.{◌≡◌, ℕ, zero, suc, ◌+◌, ◌≤◌, true, ◌&&◌, leb, [], ◌∷◌, is_ok, None, decimal, sym, refl, ap, ◌∙◌, arith}
+use Rattle.std.proofs.Common.{◌≡◌, ℕ, zero, suc, ◌+◌, ◌≤◌, true, [], ◌∷◌, is_ok, None, decimal, sym, refl, ap, ◌∙◌, arith}
 use Rattle.std.proofs.Output.{has_written_of_eq, has_written_append, writes_in_calls_nil}
 use Rattle.std.proofs.lemmas.Fmt.{decimal_digit}
 use Rattle.std.proofs.lemmas.Bool.{le-leb}
@@ -22,12 +22,12 @@ no_letters (suc n) x l s e =
 one_digit : (c : Letter) → decimal (letter_code c) ≡ (48 + letter_code c) ∷ []
 one_digit c = let h = code_most c in decimal_digit (letter_code c) (omega arith)
 
-pub returns-in-ok-write : goal.returns-in-ok-write
-returns-in-ok-write g t c plain ok =
+pub returns-in_ok-write-in-Some : goal.returns-in_ok-write-in-Some
+returns-in_ok-write-in-Some g t c plain ok =
     let took = g.W.Write.write_str_gives in
     let digit = ap decimal c.code.ensures ∙ one_digit c.in-Some.letter in
-    let first = has_written_of_eq took _ _ _ _ digit (c.write.ensures.writes plain (ap is_ok c.in-ok-write.was)) in
-    let rest = c.write-digits.ensures first.plain ok in
+    let first = has_written_of_eq took _ _ _ _ digit (c.write.ensures.writes plain (ap is_ok c.in_ok-write-in-Some.was)) in
+    let rest = c.write_digits.ensures first.plain ok in
     has_written_of_eq took _ _ _ _ (ap digits_text (sym c.in-Some.ensures.letters)) (has_written_append took _ _ _ _ _ first rest)
 
 pub returns-in-None : goal.returns-in-None

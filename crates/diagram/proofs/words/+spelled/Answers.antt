@@ -1,4 +1,4 @@
-use Rattle.std.proofs.Common.{sym, ◌∙◌, arith}
+use Rattle.std.proofs.Common.{sym, arith}
 use Rattle.diagram.proofs.Eights.{peel_none}
 use Rattle.diagram.proofs.words.+spelled.Goals as goal
 

@@ -1,4 +1,4 @@
-use Rattle.std.proofs.Common.{◌≡◌, ℕ, ◌-◌, ◌/◌, ◌%◌, ◌^◌, ◌∷◌, Some, sym, ap, ◌∙◌, arith}
+use Rattle.std.proofs.Common.{◌≡◌, ℕ, ◌-◌, ◌/◌, ◌^◌, Some, sym, ap, ◌∙◌, arith}
 use Rattle.diagram.specs.Letters.{letter_with}
 use Rattle.diagram.proofs.Eights.{peel_some}
 use Rattle.diagram.proofs.words.peel.Goals as goal

@@ -8,7 +8,7 @@ pub returns : goal.returns
 returns c =
     let n = length (table_places c.args.table.now) in
     record {
-      empty = c.empty-places.ensures;
-      none = empty_gives_none slot_place c.empty-places.new.table n c.empty-places.ensures;
+      empty = c.empty_places.ensures;
+      none = empty_gives_none slot_place c.empty_places.new.table n c.empty_places.ensures;
       places = refl;
     }

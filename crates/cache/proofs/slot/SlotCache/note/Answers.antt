@@ -5,5 +5,5 @@ use Rattle.cache.proofs.slot.SlotCache.note.Goals as goal
 
 pub returns : goal.returns
 returns c =
-    let noted = put_noted slot_place (λ n k. remainder_within n (key_number k)) c.args.table.now c.put-at-place.new.table c.args.key c.args.edge c.put-at-place.ensures in
+    let noted = put_noted slot_place (λ n k. remainder_within n (key_number k)) c.args.table.now c.put_at_place.new.table c.args.key c.args.edge c.put_at_place.ensures in
     record { noted = noted; places = refl }

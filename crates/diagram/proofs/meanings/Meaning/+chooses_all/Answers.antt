@@ -1,5 +1,4 @@
-use Rattle.std.proofs.Common.{◌≡◌, ℕ, ◌-◌, Bool, true, false, ◌&&◌, sym, refl, ap, ◌∙◌, arith}
-use Rattle.diagram.specs.declared.edges.Edge.{Edge}
+use Rattle.std.proofs.Common.{◌-◌, false, sym, refl, ◌∙◌, arith}
 use Rattle.diagram.specs.Words.{letters_of}
 use Rattle.diagram.proofs.Recorded.{edge_made}
 use Rattle.diagram.proofs.Spelt.{nothing_peeled, well_spelled_nil, peeled_chosen, peeled_unchosen}
@@ -13,7 +12,7 @@ returns-in-None t c = λ s h.
 pub returns-then-chooses : goal.returns-then-chooses
 returns-then-chooses t c = λ s h.
     let below = edge_made false (c.args.edge.length - 1) c.in-Some.word c.args.edge.target in
-    c.chooses-all.ensures s h
+    c.chooses_all.ensures s h
     ∙ sym (peeled_chosen c.args.self.now s below c.in-Some.letter c.args.foot (letters_of c.args.edge.length c.args.edge.word) refl
     (sym c.in-Some.ensures.rest ∙ c.requires.spelled) h c.in-Some.ensures.letters (sym c.if-chooses.ensures))
 

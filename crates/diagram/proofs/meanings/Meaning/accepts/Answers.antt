@@ -1,4 +1,4 @@
-use Rattle.std.proofs.Common.{◌≡◌, Bool, true, false, ◌&&◌, sym, refl, ap, ◌∙◌, arith}
+use Rattle.std.proofs.Common.{sym, refl, ◌∙◌}
 use Rattle.diagram.specs.Records.{store_of}
 use Rattle.diagram.proofs.Spelt.{not_standing, not_suiting, not_spelled, too_long, all_but_letters}
 use Rattle.diagram.proofs.meanings.Meaning.accepts.Goals as goal
@@ -12,13 +12,13 @@ returns-then-not-stands c =
       | then-not-stands-via-else-not-stands+else-not-suits+then-not-spelled w ↦ sym (not_spelled c.args.self.now c.args.diamonds.now c.args.edge _ refl (sym w.if-not-spelled.ensures))
     ]
 
-pub returns-then-too-long : goal.returns-then-too-long
-returns-then-too-long c =
-    sym (too_long c.args.self.now c.args.diamonds.now c.args.edge c.target-arity-foot.result (sym c.target-arity-foot.ensures.value) (sym c.if-too-long.ensures))
+pub returns-then-too_long : goal.returns-then-too_long
+returns-then-too_long c =
+    sym (too_long c.args.self.now c.args.diamonds.now c.args.edge c.target_arity-foot.result (sym c.target_arity-foot.ensures.value) (sym c.if-too_long.ensures))
 
 pub returns : goal.returns
 returns c =
-    let a = sym c.target-arity-foot.ensures.value in
-    c.chooses-all.ensures (store_of c.args.diamonds.now) a
-    ∙ sym (all_but_letters c.args.self.now c.args.diamonds.now c.args.edge c.target-arity-foot.result a
-    (sym c.if-not-stands.ensures) (sym c.if-not-suits.ensures) (sym c.if-not-spelled.ensures) (sym c.if-too-long.ensures))
+    let a = sym c.target_arity-foot.ensures.value in
+    c.chooses_all.ensures (store_of c.args.diamonds.now) a
+    ∙ sym (all_but_letters c.args.self.now c.args.diamonds.now c.args.edge c.target_arity-foot.result a
+    (sym c.if-not-stands.ensures) (sym c.if-not-suits.ensures) (sym c.if-not-spelled.ensures) (sym c.if-too_long.ensures))

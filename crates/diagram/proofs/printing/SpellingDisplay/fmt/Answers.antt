@@ -12,4 +12,4 @@ by_digits (suc n) x h e = ap (λ (b : Bool). cond b (letters_text (letters_of (s
 pub returns-clause-writes : goal.returns-clause-writes
 returns-clause-writes g c plain ok =
     let e = by_digits c.args.self.now.length c.args.self.now.word c.if-self-eq0.false c.if-not-spelled.ensures in
-    has_written_of_eq g.W.Write.write_str_gives _ _ _ _ e (c.write-digits.ensures plain ok)
+    has_written_of_eq g.W.Write.write_str_gives _ _ _ _ e (c.write_digits.ensures plain ok)

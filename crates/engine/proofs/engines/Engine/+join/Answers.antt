@@ -33,150 +33,150 @@ returns-in-Some-find g t c =
     let right = s.state.right c.args.key c.in-Some-find.edge (g.met.C.Cache.honest s.cache s.state.table c.args.key c.in-Some-find.edge (sym c.in-Some-find.ensures.value)) in
     record { joined = joined_found s.state c.args.key c.args.n c.requires c.in-Some-find.edge right; right = right; profile = refl; long = refl }
 
-pub half-key-low-key-requires : goal.half-key-low-key-requires
-half-key-low-key-requires g t c = record {
+pub half_key-low_key-requires : goal.half_key-low_key-requires
+half_key-low_key-requires g t c = record {
   key = c.requires;
-  some = unsettled_some c.args.self.now.state c.args.key c.args.n c.requires c.meaning.result c.meaning.ensures.value c.in-default.ensures;
+  some = unsettled_some c.args.self.now.state c.args.key c.args.n c.requires c.meaning.result c.meaning.ensures.value c.in_default.ensures;
 }
 
-pub half-key-high-key-requires : goal.half-key-high-key-requires
-half-key-high-key-requires g t c = record {
+pub half_key-high_key-requires : goal.half_key-high_key-requires
+half_key-high_key-requires g t c = record {
   key = c.requires;
-  some = unsettled_some c.args.self.now.state c.args.key c.args.n c.requires c.meaning.result c.meaning.ensures.value c.in-default.ensures;
+  some = unsettled_some c.args.self.now.state c.args.key c.args.n c.requires c.meaning.result c.meaning.ensures.value c.in_default.ensures;
 }
 
 pub overflow-sub-n : goal.overflow-sub-n
 overflow-sub-n g t c =
-    omega (arith, unsettled_some c.args.self.now.state c.args.key c.args.n c.requires c.meaning.result c.meaning.ensures.value c.in-default.ensures)
+    omega (arith, unsettled_some c.args.self.now.state c.args.key c.args.n c.requires c.meaning.result c.meaning.ensures.value c.in_default.ensures)
 
 pub join-requires : goal.join-requires
 join-requires g t c κs within =
     let s = c.args.self.now.state in
-    let i = unsettled_some s c.args.key c.args.n c.requires c.meaning.result c.meaning.ensures.value c.in-default.ensures in
-    (omega (arith, c.decreases), (within, c.plain-low-mark.ensures.key))
+    let i = unsettled_some s c.args.key c.args.n c.requires c.meaning.result c.meaning.ensures.value c.in_default.ensures in
+    (omega (arith, c.decreases), (within, c.plain-low_mark.ensures.key))
 
-pub returns-in-err-low : goal.returns-in-err-low
-returns-in-err-low g t c =
+pub returns-in_err-low : goal.returns-in_err-low
+returns-in_err-low g t c =
     let s = c.args.self.now.state in
-    let i = unsettled_some s c.args.key c.args.n c.requires c.meaning.result c.meaning.ensures.value c.in-default.ensures in
+    let i = unsettled_some s c.args.key c.args.n c.requires c.meaning.result c.meaning.ensures.value c.in_default.ensures in
     let p = err_from_is_err_and c.from-residual.result c.from-residual.ensures.1 in
-    let x = c.in-err-low.field-0.0 in
+    let x = c.in_err-low.field-0.0 in
     let q : c.from-residual.result ≡ Err x = p.1 ∙ ap Err p.2 in
     let xs = diamonds_in c.join.new.self.state.diamonds in
     record {
       joined = subst (λ (r : Result Edge Refusal). Joined s.profile.meaning (diamonds_in s.diamonds) (joint_of (diamonds_in s.diamonds) c.args.key) r xs) (sym q)
-          (break_low s.profile.meaning (diamonds_in s.diamonds) (state_well s) c.args.key c.args.n c.requires i c.half-key-low-key.result c.half-key-high-key.result c.half-key-low-key.ensures.key c.half-key-high-key.ensures.key c.half-key-low-key.ensures.half c.half-key-high-key.ensures.half x xs (low_joined s.profile.meaning (diamonds_in s.diamonds) (state_well s) c.args.key c.args.n c.requires i c.half-key-low-key.result c.half-key-high-key.result c.half-key-low-key.ensures.key c.half-key-high-key.ensures.key c.half-key-low-key.ensures.half c.half-key-high-key.ensures.half c.plain-low-mark.result.0 c.plain-low-mark.result.1 c.plain-low-mark.ensures.mark c.plain-low-mark.ensures.rule c.plain-high-mark.result.0 c.plain-high-mark.result.1 c.plain-high-mark.ensures.key c.plain-high-mark.ensures.mark c.plain-high-mark.ensures.rule (Err x) xs c.in-err-low.ensures.joined));
+          (break_low s.profile.meaning (diamonds_in s.diamonds) (state_well s) c.args.key c.args.n c.requires i c.half_key-low_key.result c.half_key-high_key.result c.half_key-low_key.ensures.key c.half_key-high_key.ensures.key c.half_key-low_key.ensures.half c.half_key-high_key.ensures.half x xs (low_joined s.profile.meaning (diamonds_in s.diamonds) (state_well s) c.args.key c.args.n c.requires i c.half_key-low_key.result c.half_key-high_key.result c.half_key-low_key.ensures.key c.half_key-high_key.ensures.key c.half_key-low_key.ensures.half c.half_key-high_key.ensures.half c.plain-low_mark.result.0 c.plain-low_mark.result.1 c.plain-low_mark.ensures.mark c.plain-low_mark.ensures.rule c.plain-high_mark.result.0 c.plain-high_mark.result.1 c.plain-high_mark.ensures.key c.plain-high_mark.ensures.mark c.plain-high_mark.ensures.rule (Err x) xs c.in_err-low.ensures.joined));
       right = refused_made (λ e. right_for c.join.new.self.state.profile.meaning xs c.args.key e ≡ true) c.from-residual.result x q;
-      profile = c.in-err-low.ensures.profile;
-      long = c.in-err-low.ensures.long;
+      profile = c.in_err-low.ensures.profile;
+      long = c.in_err-low.ensures.long;
     }
 
 pub overflow-sub-n-2 : goal.overflow-sub-n-2
 overflow-sub-n-2 g t c =
-    omega (arith, unsettled_some c.args.self.now.state c.args.key c.args.n c.requires c.meaning.result c.meaning.ensures.value c.in-default.ensures)
+    omega (arith, unsettled_some c.args.self.now.state c.args.key c.args.n c.requires c.meaning.result c.meaning.ensures.value c.in_default.ensures)
 
 pub overflow-sub-n-3 : goal.overflow-sub-n-3
 overflow-sub-n-3 g t c =
-    omega (arith, unsettled_some c.args.self.now.state c.args.key c.args.n c.requires c.meaning.result c.meaning.ensures.value c.in-default.ensures)
+    omega (arith, unsettled_some c.args.self.now.state c.args.key c.args.n c.requires c.meaning.result c.meaning.ensures.value c.in_default.ensures)
 
 pub overflow-sub-n-4 : goal.overflow-sub-n-4
 overflow-sub-n-4 g t c =
-    omega (arith, unsettled_some c.args.self.now.state c.args.key c.args.n c.requires c.meaning.result c.meaning.ensures.value c.in-default.ensures)
+    omega (arith, unsettled_some c.args.self.now.state c.args.key c.args.n c.requires c.meaning.result c.meaning.ensures.value c.in_default.ensures)
 
 pub join-requires-2 : goal.join-requires-2
 join-requires-2 g t c κs within =
     let s = c.args.self.now.state in
-    let i = unsettled_some s c.args.key c.args.n c.requires c.meaning.result c.meaning.ensures.value c.in-default.ensures in
+    let i = unsettled_some s c.args.key c.args.n c.requires c.meaning.result c.meaning.ensures.value c.in_default.ensures in
     let es = diamonds_in c.join.new.self.state.diamonds in
-    (omega (arith, c.decreases), (within, subst (λ (p : Profile). KeyOfArity p.meaning es c.plain-high-mark.result.0 (c.args.n - 1)) (sym c.in-ok-low.ensures.profile) (high_plain s.profile.meaning (diamonds_in s.diamonds) (state_well s) c.args.key c.args.n c.requires i c.half-key-low-key.result c.half-key-high-key.result c.half-key-low-key.ensures.key c.half-key-high-key.ensures.key c.half-key-low-key.ensures.half c.half-key-high-key.ensures.half c.plain-low-mark.result.0 c.plain-low-mark.result.1 c.plain-low-mark.ensures.mark c.plain-low-mark.ensures.rule c.plain-high-mark.result.0 c.plain-high-mark.result.1 c.plain-high-mark.ensures.key c.plain-high-mark.ensures.mark c.plain-high-mark.ensures.rule c.in-ok-low.low es c.in-ok-low.ensures.joined)))
+    (omega (arith, c.decreases), (within, subst (λ (p : Profile). KeyOfArity p.meaning es c.plain-high_mark.result.0 (c.args.n - 1)) (sym c.in_ok-low.ensures.profile) (high_plain s.profile.meaning (diamonds_in s.diamonds) (state_well s) c.args.key c.args.n c.requires i c.half_key-low_key.result c.half_key-high_key.result c.half_key-low_key.ensures.key c.half_key-high_key.ensures.key c.half_key-low_key.ensures.half c.half_key-high_key.ensures.half c.plain-low_mark.result.0 c.plain-low_mark.result.1 c.plain-low_mark.ensures.mark c.plain-low_mark.ensures.rule c.plain-high_mark.result.0 c.plain-high_mark.result.1 c.plain-high_mark.ensures.key c.plain-high_mark.ensures.mark c.plain-high_mark.ensures.rule c.in_ok-low.low es c.in_ok-low.ensures.joined)))
 
-pub returns-in-err-high : goal.returns-in-err-high
-returns-in-err-high g t c =
+pub returns-in_err-high : goal.returns-in_err-high
+returns-in_err-high g t c =
     let s = c.args.self.now.state in
-    let i = unsettled_some s c.args.key c.args.n c.requires c.meaning.result c.meaning.ensures.value c.in-default.ensures in
-    let p = err_from_is_err_and c.from-residual-in-err-high.result c.from-residual-in-err-high.ensures.1 in
-    let x = c.in-err-high.field-0.0 in
-    let q : c.from-residual-in-err-high.result ≡ Err x = p.1 ∙ ap Err p.2 in
+    let i = unsettled_some s c.args.key c.args.n c.requires c.meaning.result c.meaning.ensures.value c.in_default.ensures in
+    let p = err_from_is_err_and c.from-residual-in_err-high.result c.from-residual-in_err-high.ensures.1 in
+    let x = c.in_err-high.field-0.0 in
+    let q : c.from-residual-in_err-high.result ≡ Err x = p.1 ∙ ap Err p.2 in
     let es = diamonds_in c.join.new.self.state.diamonds in
     let xs = diamonds_in c.join-2.new.self.state.diamonds in
-    let m = subst (λ (p : Profile). Joined p.meaning es (joint_of es c.plain-high-mark.result.0) (Err x) xs) c.in-ok-low.ensures.profile c.in-err-high.ensures.joined in
+    let m = subst (λ (p : Profile). Joined p.meaning es (joint_of es c.plain-high_mark.result.0) (Err x) xs) c.in_ok-low.ensures.profile c.in_err-high.ensures.joined in
     record {
-      joined = subst (λ (r : Result Edge Refusal). Joined s.profile.meaning (diamonds_in s.diamonds) (joint_of (diamonds_in s.diamonds) c.args.key) r xs) (sym q) (plain_break_high s.profile.meaning (diamonds_in s.diamonds) (state_well s) c.args.key c.args.n c.requires i c.half-key-low-key.result c.half-key-high-key.result c.half-key-low-key.ensures.key c.half-key-high-key.ensures.key c.half-key-low-key.ensures.half c.half-key-high-key.ensures.half c.plain-low-mark.result.0 c.plain-low-mark.result.1 c.plain-low-mark.ensures.mark c.plain-low-mark.ensures.rule c.plain-high-mark.result.0 c.plain-high-mark.result.1 c.plain-high-mark.ensures.key c.plain-high-mark.ensures.mark c.plain-high-mark.ensures.rule c.in-ok-low.low es c.in-ok-low.ensures.joined x xs m);
-      right = refused_made (λ e. right_for c.join-2.new.self.state.profile.meaning xs c.args.key e ≡ true) c.from-residual-in-err-high.result x q;
-      profile = c.in-err-high.ensures.profile ∙ c.in-ok-low.ensures.profile;
-      long = c.in-err-high.ensures.long ∙ c.in-ok-low.ensures.long;
+      joined = subst (λ (r : Result Edge Refusal). Joined s.profile.meaning (diamonds_in s.diamonds) (joint_of (diamonds_in s.diamonds) c.args.key) r xs) (sym q) (plain_break_high s.profile.meaning (diamonds_in s.diamonds) (state_well s) c.args.key c.args.n c.requires i c.half_key-low_key.result c.half_key-high_key.result c.half_key-low_key.ensures.key c.half_key-high_key.ensures.key c.half_key-low_key.ensures.half c.half_key-high_key.ensures.half c.plain-low_mark.result.0 c.plain-low_mark.result.1 c.plain-low_mark.ensures.mark c.plain-low_mark.ensures.rule c.plain-high_mark.result.0 c.plain-high_mark.result.1 c.plain-high_mark.ensures.key c.plain-high_mark.ensures.mark c.plain-high_mark.ensures.rule c.in_ok-low.low es c.in_ok-low.ensures.joined x xs m);
+      right = refused_made (λ e. right_for c.join-2.new.self.state.profile.meaning xs c.args.key e ≡ true) c.from-residual-in_err-high.result x q;
+      profile = c.in_err-high.ensures.profile ∙ c.in_ok-low.ensures.profile;
+      long = c.in_err-high.ensures.long ∙ c.in_ok-low.ensures.long;
     }
 
 pub make-requires : goal.make-requires
 make-requires g t c =
     let s = c.args.self.now.state in
-    let i = unsettled_some s c.args.key c.args.n c.requires c.meaning.result c.meaning.ensures.value c.in-default.ensures in
+    let i = unsettled_some s c.args.key c.args.n c.requires c.meaning.result c.meaning.ensures.value c.in_default.ensures in
     let es = diamonds_in c.join.new.self.state.diamonds in
     let xs = diamonds_in c.join-2.new.self.state.diamonds in
-    let m = subst (λ (p : Profile). Joined p.meaning es (joint_of es c.plain-high-mark.result.0) (Ok c.in-ok-high.high) xs) c.in-ok-low.ensures.profile c.in-ok-high.ensures.joined in
-    let f = subst (λ (p : Profile). HalvesFit p.meaning xs (turned c.plain-low-mark.result.1 c.in-ok-low.low) (turned c.plain-high-mark.result.1 c.in-ok-high.high)) (sym (c.in-ok-high.ensures.profile ∙ c.in-ok-low.ensures.profile))
-    (plain_fits s.profile.meaning (diamonds_in s.diamonds) (state_well s) c.args.key c.args.n c.requires i c.half-key-low-key.result c.half-key-high-key.result c.half-key-low-key.ensures.key c.half-key-high-key.ensures.key c.half-key-low-key.ensures.half c.half-key-high-key.ensures.half c.plain-low-mark.result.0 c.plain-low-mark.result.1 c.plain-low-mark.ensures.mark c.plain-low-mark.ensures.rule c.plain-high-mark.result.0 c.plain-high-mark.result.1 c.plain-high-mark.ensures.key c.plain-high-mark.ensures.mark c.plain-high-mark.ensures.rule c.in-ok-low.low es c.in-ok-low.ensures.joined c.in-ok-high.high xs m) in
+    let m = subst (λ (p : Profile). Joined p.meaning es (joint_of es c.plain-high_mark.result.0) (Ok c.in_ok-high.high) xs) c.in_ok-low.ensures.profile c.in_ok-high.ensures.joined in
+    let f = subst (λ (p : Profile). HalvesFit p.meaning xs (turned c.plain-low_mark.result.1 c.in_ok-low.low) (turned c.plain-high_mark.result.1 c.in_ok-high.high)) (sym (c.in_ok-high.ensures.profile ∙ c.in_ok-low.ensures.profile))
+    (plain_fits s.profile.meaning (diamonds_in s.diamonds) (state_well s) c.args.key c.args.n c.requires i c.half_key-low_key.result c.half_key-high_key.result c.half_key-low_key.ensures.key c.half_key-high_key.ensures.key c.half_key-low_key.ensures.half c.half_key-high_key.ensures.half c.plain-low_mark.result.0 c.plain-low_mark.result.1 c.plain-low_mark.ensures.mark c.plain-low_mark.ensures.rule c.plain-high_mark.result.0 c.plain-high_mark.result.1 c.plain-high_mark.ensures.key c.plain-high_mark.ensures.mark c.plain-high_mark.ensures.rule c.in_ok-low.low es c.in_ok-low.ensures.joined c.in_ok-high.high xs m) in
     subst (λ (u : Edge × Edge). HalvesFit c.join-2.new.self.state.profile.meaning xs u.0 u.1) (ap₂ (λ (a b : Edge). (a, b)) (sym c.turned.ensures) (sym c.turned-2.ensures)) f
 
-pub returns-in-err-edge : goal.returns-in-err-edge
-returns-in-err-edge g t c =
+pub returns-in_err-edge : goal.returns-in_err-edge
+returns-in_err-edge g t c =
     let s = c.args.self.now.state in
-    let i = unsettled_some s c.args.key c.args.n c.requires c.meaning.result c.meaning.ensures.value c.in-default.ensures in
+    let i = unsettled_some s c.args.key c.args.n c.requires c.meaning.result c.meaning.ensures.value c.in_default.ensures in
     let es = diamonds_in c.join.new.self.state.diamonds in
     let xs = diamonds_in c.join-2.new.self.state.diamonds in
     let ys = diamonds_in c.make.new.self.diamonds in
-    let same = c.in-ok-high.ensures.profile ∙ c.in-ok-low.ensures.profile in
-    let m = subst (λ (p : Profile). Joined p.meaning es (joint_of es c.plain-high-mark.result.0) (Ok c.in-ok-high.high) xs) c.in-ok-low.ensures.profile c.in-ok-high.ensures.joined in
-    let o₁ = subst (λ (p : Profile). ◌≡◌ {A = Outcome} (Err c.in-err-edge.field-0.0, ys) (kept xs (make p.meaning (store_of xs) (edge_of c.turned.result) (edge_of c.turned-2.result)))) same c.in-err-edge.ensures.outcome in
+    let same = c.in_ok-high.ensures.profile ∙ c.in_ok-low.ensures.profile in
+    let m = subst (λ (p : Profile). Joined p.meaning es (joint_of es c.plain-high_mark.result.0) (Ok c.in_ok-high.high) xs) c.in_ok-low.ensures.profile c.in_ok-high.ensures.joined in
+    let o₁ = subst (λ (p : Profile). ◌≡◌ {A = Outcome} (Err c.in_err-edge.field-0.0, ys) (kept xs (make p.meaning (store_of xs) (edge_of c.turned.result) (edge_of c.turned-2.result)))) same c.in_err-edge.ensures.outcome in
     let o = o₁ ∙ ap₂ (λ (a b : Edge). kept xs (make s.profile.meaning (store_of xs) (edge_of a) (edge_of b))) c.turned.ensures c.turned-2.ensures in
-    let j = plain_both s.profile.meaning (diamonds_in s.diamonds) (state_well s) c.args.key c.args.n c.requires i c.half-key-low-key.result c.half-key-high-key.result c.half-key-low-key.ensures.key c.half-key-high-key.ensures.key c.half-key-low-key.ensures.half c.half-key-high-key.ensures.half c.plain-low-mark.result.0 c.plain-low-mark.result.1 c.plain-low-mark.ensures.mark c.plain-low-mark.ensures.rule c.plain-high-mark.result.0 c.plain-high-mark.result.1 c.plain-high-mark.ensures.key c.plain-high-mark.ensures.mark c.plain-high-mark.ensures.rule c.in-ok-low.low es c.in-ok-low.ensures.joined c.in-ok-high.high xs m (Err c.in-err-edge.field-0.0) ys o in
-    let p = err_from_is_err_and c.from-residual-in-err-edge.result c.from-residual-in-err-edge.ensures.1 in
-    let q : c.from-residual-in-err-edge.result ≡ Err c.in-err-edge.field-0.0 = p.1 ∙ ap Err p.2 in
+    let j = plain_both s.profile.meaning (diamonds_in s.diamonds) (state_well s) c.args.key c.args.n c.requires i c.half_key-low_key.result c.half_key-high_key.result c.half_key-low_key.ensures.key c.half_key-high_key.ensures.key c.half_key-low_key.ensures.half c.half_key-high_key.ensures.half c.plain-low_mark.result.0 c.plain-low_mark.result.1 c.plain-low_mark.ensures.mark c.plain-low_mark.ensures.rule c.plain-high_mark.result.0 c.plain-high_mark.result.1 c.plain-high_mark.ensures.key c.plain-high_mark.ensures.mark c.plain-high_mark.ensures.rule c.in_ok-low.low es c.in_ok-low.ensures.joined c.in_ok-high.high xs m (Err c.in_err-edge.field-0.0) ys o in
+    let p = err_from_is_err_and c.from-residual-in_err-edge.result c.from-residual-in_err-edge.ensures.1 in
+    let q : c.from-residual-in_err-edge.result ≡ Err c.in_err-edge.field-0.0 = p.1 ∙ ap Err p.2 in
     record {
       joined = subst (λ (r : Result Edge Refusal). Joined s.profile.meaning (diamonds_in s.diamonds) (joint_of (diamonds_in s.diamonds) c.args.key) r ys) (sym q) j;
-      right = refused_made (λ e. right_for c.make.new.self.profile.meaning ys c.args.key e ≡ true) c.from-residual-in-err-edge.result c.in-err-edge.field-0.0 q;
-      profile = c.in-err-edge.ensures.profile ∙ same;
-      long = ap (λ (t : Table). length (table_places t)) c.in-err-edge.ensures.table ∙ c.in-ok-high.ensures.long ∙ c.in-ok-low.ensures.long;
+      right = refused_made (λ e. right_for c.make.new.self.profile.meaning ys c.args.key e ≡ true) c.from-residual-in_err-edge.result c.in_err-edge.field-0.0 q;
+      profile = c.in_err-edge.ensures.profile ∙ same;
+      long = ap (λ (t : Table). length (table_places t)) c.in_err-edge.ensures.table ∙ c.in_ok-high.ensures.long ∙ c.in_ok-low.ensures.long;
     }
 
 pub note-requires : goal.note-requires
 note-requires g t c =
     let s = c.args.self.now.state in
-    let i = unsettled_some s c.args.key c.args.n c.requires c.meaning.result c.meaning.ensures.value c.in-default.ensures in
+    let i = unsettled_some s c.args.key c.args.n c.requires c.meaning.result c.meaning.ensures.value c.in_default.ensures in
     let es = diamonds_in c.join.new.self.state.diamonds in
     let xs = diamonds_in c.join-2.new.self.state.diamonds in
     let ys = diamonds_in c.make.new.self.diamonds in
-    let same = c.in-ok-high.ensures.profile ∙ c.in-ok-low.ensures.profile in
-    let m = subst (λ (p : Profile). Joined p.meaning es (joint_of es c.plain-high-mark.result.0) (Ok c.in-ok-high.high) xs) c.in-ok-low.ensures.profile c.in-ok-high.ensures.joined in
-    let o₁ = subst (λ (p : Profile). ◌≡◌ {A = Outcome} (Ok c.in-ok-edge.edge, ys) (kept xs (make p.meaning (store_of xs) (edge_of c.turned.result) (edge_of c.turned-2.result)))) same c.in-ok-edge.ensures.outcome in
+    let same = c.in_ok-high.ensures.profile ∙ c.in_ok-low.ensures.profile in
+    let m = subst (λ (p : Profile). Joined p.meaning es (joint_of es c.plain-high_mark.result.0) (Ok c.in_ok-high.high) xs) c.in_ok-low.ensures.profile c.in_ok-high.ensures.joined in
+    let o₁ = subst (λ (p : Profile). ◌≡◌ {A = Outcome} (Ok c.in_ok-edge.edge, ys) (kept xs (make p.meaning (store_of xs) (edge_of c.turned.result) (edge_of c.turned-2.result)))) same c.in_ok-edge.ensures.outcome in
     let o = o₁ ∙ ap₂ (λ (a b : Edge). kept xs (make s.profile.meaning (store_of xs) (edge_of a) (edge_of b))) c.turned.ensures c.turned-2.ensures in
-    let j = plain_both s.profile.meaning (diamonds_in s.diamonds) (state_well s) c.args.key c.args.n c.requires i c.half-key-low-key.result c.half-key-high-key.result c.half-key-low-key.ensures.key c.half-key-high-key.ensures.key c.half-key-low-key.ensures.half c.half-key-high-key.ensures.half c.plain-low-mark.result.0 c.plain-low-mark.result.1 c.plain-low-mark.ensures.mark c.plain-low-mark.ensures.rule c.plain-high-mark.result.0 c.plain-high-mark.result.1 c.plain-high-mark.ensures.key c.plain-high-mark.ensures.mark c.plain-high-mark.ensures.rule c.in-ok-low.low es c.in-ok-low.ensures.joined c.in-ok-high.high xs m (Ok c.in-ok-edge.edge) ys o in
+    let j = plain_both s.profile.meaning (diamonds_in s.diamonds) (state_well s) c.args.key c.args.n c.requires i c.half_key-low_key.result c.half_key-high_key.result c.half_key-low_key.ensures.key c.half_key-high_key.ensures.key c.half_key-low_key.ensures.half c.half_key-high_key.ensures.half c.plain-low_mark.result.0 c.plain-low_mark.result.1 c.plain-low_mark.ensures.mark c.plain-low_mark.ensures.rule c.plain-high_mark.result.0 c.plain-high_mark.result.1 c.plain-high_mark.ensures.key c.plain-high_mark.ensures.mark c.plain-high_mark.ensures.rule c.in_ok-low.low es c.in_ok-low.ensures.joined c.in_ok-high.high xs m (Ok c.in_ok-edge.edge) ys o in
     let w = state_well c.make.new.self in
-    let k = joined_stands s.profile.meaning (diamonds_in s.diamonds) (state_well s) c.args.key c.args.n c.requires c.in-ok-edge.edge ys j in
-    let all = c.in-ok-edge.ensures.profile ∙ same in
-    subst (λ (p : Profile). right_for p.meaning ys c.args.key c.in-ok-edge.edge ≡ true) (sym all)
-    (right_met s.profile.meaning ys (subst (λ (p : Profile). HeldWell p.meaning ys) all w) c.args.key c.in-ok-edge.edge k)
+    let k = joined_stands s.profile.meaning (diamonds_in s.diamonds) (state_well s) c.args.key c.args.n c.requires c.in_ok-edge.edge ys j in
+    let all = c.in_ok-edge.ensures.profile ∙ same in
+    subst (λ (p : Profile). right_for p.meaning ys c.args.key c.in_ok-edge.edge ≡ true) (sym all)
+    (right_met s.profile.meaning ys (subst (λ (p : Profile). HeldWell p.meaning ys) all w) c.args.key c.in_ok-edge.edge k)
 
 pub returns : goal.returns
 returns g t c =
     let s = c.args.self.now.state in
-    let i = unsettled_some s c.args.key c.args.n c.requires c.meaning.result c.meaning.ensures.value c.in-default.ensures in
+    let i = unsettled_some s c.args.key c.args.n c.requires c.meaning.result c.meaning.ensures.value c.in_default.ensures in
     let es = diamonds_in c.join.new.self.state.diamonds in
     let xs = diamonds_in c.join-2.new.self.state.diamonds in
     let ys = diamonds_in c.make.new.self.diamonds in
-    let same = c.in-ok-high.ensures.profile ∙ c.in-ok-low.ensures.profile in
-    let m = subst (λ (p : Profile). Joined p.meaning es (joint_of es c.plain-high-mark.result.0) (Ok c.in-ok-high.high) xs) c.in-ok-low.ensures.profile c.in-ok-high.ensures.joined in
-    let o₁ = subst (λ (p : Profile). ◌≡◌ {A = Outcome} (Ok c.in-ok-edge.edge, ys) (kept xs (make p.meaning (store_of xs) (edge_of c.turned.result) (edge_of c.turned-2.result)))) same c.in-ok-edge.ensures.outcome in
+    let same = c.in_ok-high.ensures.profile ∙ c.in_ok-low.ensures.profile in
+    let m = subst (λ (p : Profile). Joined p.meaning es (joint_of es c.plain-high_mark.result.0) (Ok c.in_ok-high.high) xs) c.in_ok-low.ensures.profile c.in_ok-high.ensures.joined in
+    let o₁ = subst (λ (p : Profile). ◌≡◌ {A = Outcome} (Ok c.in_ok-edge.edge, ys) (kept xs (make p.meaning (store_of xs) (edge_of c.turned.result) (edge_of c.turned-2.result)))) same c.in_ok-edge.ensures.outcome in
     let o = o₁ ∙ ap₂ (λ (a b : Edge). kept xs (make s.profile.meaning (store_of xs) (edge_of a) (edge_of b))) c.turned.ensures c.turned-2.ensures in
-    let j = plain_both s.profile.meaning (diamonds_in s.diamonds) (state_well s) c.args.key c.args.n c.requires i c.half-key-low-key.result c.half-key-high-key.result c.half-key-low-key.ensures.key c.half-key-high-key.ensures.key c.half-key-low-key.ensures.half c.half-key-high-key.ensures.half c.plain-low-mark.result.0 c.plain-low-mark.result.1 c.plain-low-mark.ensures.mark c.plain-low-mark.ensures.rule c.plain-high-mark.result.0 c.plain-high-mark.result.1 c.plain-high-mark.ensures.key c.plain-high-mark.ensures.mark c.plain-high-mark.ensures.rule c.in-ok-low.low es c.in-ok-low.ensures.joined c.in-ok-high.high xs m (Ok c.in-ok-edge.edge) ys o in
+    let j = plain_both s.profile.meaning (diamonds_in s.diamonds) (state_well s) c.args.key c.args.n c.requires i c.half_key-low_key.result c.half_key-high_key.result c.half_key-low_key.ensures.key c.half_key-high_key.ensures.key c.half_key-low_key.ensures.half c.half_key-high_key.ensures.half c.plain-low_mark.result.0 c.plain-low_mark.result.1 c.plain-low_mark.ensures.mark c.plain-low_mark.ensures.rule c.plain-high_mark.result.0 c.plain-high_mark.result.1 c.plain-high_mark.ensures.key c.plain-high_mark.ensures.mark c.plain-high_mark.ensures.rule c.in_ok-low.low es c.in_ok-low.ensures.joined c.in_ok-high.high xs m (Ok c.in_ok-edge.edge) ys o in
     let w = state_well c.make.new.self in
-    let k = joined_stands s.profile.meaning (diamonds_in s.diamonds) (state_well s) c.args.key c.args.n c.requires c.in-ok-edge.edge ys j in
-    let all = c.in-ok-edge.ensures.profile ∙ same in
-    let right : right_for s.profile.meaning ys c.args.key c.in-ok-edge.edge ≡ true = right_met s.profile.meaning ys (subst (λ (p : Profile). HeldWell p.meaning ys) all w) c.args.key c.in-ok-edge.edge k in
+    let k = joined_stands s.profile.meaning (diamonds_in s.diamonds) (state_well s) c.args.key c.args.n c.requires c.in_ok-edge.edge ys j in
+    let all = c.in_ok-edge.ensures.profile ∙ same in
+    let right : right_for s.profile.meaning ys c.args.key c.in_ok-edge.edge ≡ true = right_met s.profile.meaning ys (subst (λ (p : Profile). HeldWell p.meaning ys) all w) c.args.key c.in_ok-edge.edge k in
     record {
-      right = subst (λ (p : Profile). right_for p.meaning (diamonds_in c.note.new.self.state.diamonds) c.args.key c.in-ok-edge.edge ≡ true) (sym (c.note.ensures.state.1 ∙ all))
-          (subst (λ (u : UniqueTable). right_for s.profile.meaning (diamonds_in u) c.args.key c.in-ok-edge.edge ≡ true) (sym c.note.ensures.state.0) right);
-      joined = subst (λ (u : UniqueTable). Joined s.profile.meaning (diamonds_in s.diamonds) (joint_of (diamonds_in s.diamonds) c.args.key) (Ok c.in-ok-edge.edge) (diamonds_in u)) (sym c.note.ensures.state.0) j;
+      right = subst (λ (p : Profile). right_for p.meaning (diamonds_in c.note.new.self.state.diamonds) c.args.key c.in_ok-edge.edge ≡ true) (sym (c.note.ensures.state.1 ∙ all))
+          (subst (λ (u : UniqueTable). right_for s.profile.meaning (diamonds_in u) c.args.key c.in_ok-edge.edge ≡ true) (sym c.note.ensures.state.0) right);
+      joined = subst (λ (u : UniqueTable). Joined s.profile.meaning (diamonds_in s.diamonds) (joint_of (diamonds_in s.diamonds) c.args.key) (Ok c.in_ok-edge.edge) (diamonds_in u)) (sym c.note.ensures.state.0) j;
       profile = c.note.ensures.state.1 ∙ all;
-      long = c.note.ensures.noted.long ∙ ap (λ (t : Table). length (table_places t)) c.in-ok-edge.ensures.table ∙ c.in-ok-high.ensures.long ∙ c.in-ok-low.ensures.long;
+      long = c.note.ensures.noted.long ∙ ap (λ (t : Table). length (table_places t)) c.in_ok-edge.ensures.table ∙ c.in_ok-high.ensures.long ∙ c.in_ok-low.ensures.long;
     }

@@ -21,16 +21,16 @@ use Rattle.engine.proofs.Halfwise.{joined_stands, joined_step, refused_step}
 use Rattle.engine.proofs.Mapped.{connective_refused, pair_refused, pair_passed, remembers_state, nothing_given, map_left, map_found, map_noted, map_emptied}
 use Rattle.engine.proofs.engines.Engine.combine.Goals as goal
 
-pub returns-in-err-connective : goal.returns-in-err-connective
-returns-in-err-connective g c =
+pub returns-in_err-connective : goal.returns-in_err-connective
+returns-in_err-connective g c =
     let s = c.args.self.now in
     let D = s.state.profile.meaning in
     let ds = diamonds_in s.state.diamonds in
     let K = key c.args.connective c.args.a c.args.b in
-    let x = c.in-err-connective.field-0.0 in
+    let x = c.in_err-connective.field-0.0 in
     let p = err_from_is_err_and c.from-residual.result c.from-residual.ensures.1 in
     let q : c.from-residual.result ≡ Err x = p.1 ∙ ap Err p.2 in
-    let o = connective_refused D ds c.args.connective c.args.a c.args.b x c.in-err-connective.ensures in
+    let o = connective_refused D ds c.args.connective c.args.a c.args.b x c.in_err-connective.ensures in
     let gave = g.C.Cache.held s.cache s.state.table in
     record {
       answer = q ∙ ap (λ (z : Outcome). answered (given (gave K)) z.0) (sym o.0);
@@ -43,17 +43,17 @@ returns-in-err-connective g c =
       map = map_left g.C.Cache.keeps D ds K gave x (combine_step D ds c.args.connective c.args.a c.args.b).0 (ap (λ (z : Outcome). z.0) o.0) o.1 (remembers_state s.state gave (g.met.C.Cache.honest s.cache s.state.table));
     }
 
-pub returns-in-err-n : goal.returns-in-err-n
-returns-in-err-n g c =
+pub returns-in_err-n : goal.returns-in_err-n
+returns-in_err-n g c =
     let s = c.args.self.now in
     let D = s.state.profile.meaning in
     let ds = diamonds_in s.state.diamonds in
     let K = key c.args.connective c.args.a c.args.b in
-    let x = c.in-err-n.field-0.0 in
-    let p = err_from_is_err_and c.from-residual-in-err-n.result c.from-residual-in-err-n.ensures.1 in
-    let q : c.from-residual-in-err-n.result ≡ Err x = p.1 ∙ ap Err p.2 in
-    let t = passed (leb c.args.connective 15) c.in-ok-connective.connective c.args.connective NoConnective c.in-ok-connective.ensures in
-    let o = pair_refused D ds c.args.connective c.args.a c.args.b x t.0 c.in-err-n.ensures in
+    let x = c.in_err-n.field-0.0 in
+    let p = err_from_is_err_and c.from-residual-in_err-n.result c.from-residual-in_err-n.ensures.1 in
+    let q : c.from-residual-in_err-n.result ≡ Err x = p.1 ∙ ap Err p.2 in
+    let t = passed (leb c.args.connective 15) c.in_ok-connective.connective c.args.connective NoConnective c.in_ok-connective.ensures in
+    let o = pair_refused D ds c.args.connective c.args.a c.args.b x t.0 c.in_err-n.ensures in
     let gave = g.C.Cache.held s.cache s.state.table in
     record {
       answer = q ∙ ap (λ (z : Outcome). answered (given (gave K)) z.0) (sym o.0);
@@ -73,8 +73,8 @@ returns-in-Some g c =
     let ds = diamonds_in s.state.diamonds in
     let K = key c.args.connective c.args.a c.args.b in
     let e = c.in-Some.edge in
-    let t = passed (leb c.args.connective 15) c.in-ok-connective.connective c.args.connective NoConnective c.in-ok-connective.ensures in
-    let kk : c.key-of-key.result ≡ K = c.key-of-key.ensures ∙ ap (λ (n : ℕ). key n c.args.a c.args.b) t.1 in
+    let t = passed (leb c.args.connective 15) c.in_ok-connective.connective c.args.connective NoConnective c.in_ok-connective.ensures in
+    let kk : c.key_of-key.result ≡ K = c.key_of-key.ensures ∙ ap (λ (n : ℕ). key n c.args.a c.args.b) t.1 in
     let gave = g.C.Cache.held s.cache s.state.table in
     let gives = g.C.Cache.held c.find.new.self s.state.table in
     let h : gave K ≡ Some e = ap gave (sym kk) ∙ sym c.in-Some.ensures.value in
@@ -97,12 +97,12 @@ join-requires g c =
     let D = s.state.profile.meaning in
     let ds = diamonds_in s.state.diamonds in
     let K = key c.args.connective c.args.a c.args.b in
-    let t = passed (leb c.args.connective 15) c.in-ok-connective.connective c.args.connective NoConnective c.in-ok-connective.ensures in
-    let kk : c.key-of-key.result ≡ K = c.key-of-key.ensures ∙ ap (λ (n : ℕ). key n c.args.a c.args.b) t.1 in
-    subst (λ (k : Key). KeyOfArity D ds k c.in-ok-n.n) (sym kk) (pair_passed D ds c.args.connective c.args.a c.args.b c.in-ok-n.n t.0 c.in-ok-n.ensures)
+    let t = passed (leb c.args.connective 15) c.in_ok-connective.connective c.args.connective NoConnective c.in_ok-connective.ensures in
+    let kk : c.key_of-key.result ≡ K = c.key_of-key.ensures ∙ ap (λ (n : ℕ). key n c.args.a c.args.b) t.1 in
+    subst (λ (k : Key). KeyOfArity D ds k c.in_ok-n.n) (sym kk) (pair_passed D ds c.args.connective c.args.a c.args.b c.in_ok-n.n t.0 c.in_ok-n.ensures)
 
-pub take-back-requires : goal.take-back-requires
-take-back-requires g c =
+pub take_back-requires : goal.take_back-requires
+take_back-requires g c =
     let s = c.args.self.now.state in
     let xs = diamonds_in c.join.new.self.state.diamonds in
     let b : take c.len-count.result xs ≡ diamonds_in s.diamonds = ap (λ (n : ℕ). take n xs) c.len-count.ensures ∙ c.in-Err.ensures.joined.begins in
@@ -115,9 +115,9 @@ returns-in-Ok g c =
     let ds = diamonds_in s.state.diamonds in
     let K = key c.args.connective c.args.a c.args.b in
     let e = c.in-Ok.edge in
-    let t = passed (leb c.args.connective 15) c.in-ok-connective.connective c.args.connective NoConnective c.in-ok-connective.ensures in
-    let kk : c.key-of-key.result ≡ K = c.key-of-key.ensures ∙ ap (λ (n : ℕ). key n c.args.a c.args.b) t.1 in
-    let a = subst (λ (k : Key). KeyOfArity D ds k c.in-ok-n.n) (sym kk) (pair_passed D ds c.args.connective c.args.a c.args.b c.in-ok-n.n t.0 c.in-ok-n.ensures) in
+    let t = passed (leb c.args.connective 15) c.in_ok-connective.connective c.args.connective NoConnective c.in_ok-connective.ensures in
+    let kk : c.key_of-key.result ≡ K = c.key_of-key.ensures ∙ ap (λ (n : ℕ). key n c.args.a c.args.b) t.1 in
+    let a = subst (λ (k : Key). KeyOfArity D ds k c.in_ok-n.n) (sym kk) (pair_passed D ds c.args.connective c.args.a c.args.b c.in_ok-n.n t.0 c.in_ok-n.ensures) in
     let es = diamonds_in c.join.new.self.state.diamonds in
     let last = c.note.new.self in
     let fs = diamonds_in last.state.diamonds in
@@ -125,15 +125,15 @@ returns-in-Ok g c =
     let same : last.state.profile ≡ s.state.profile = c.note.ensures.state.1 ∙ c.in-Ok.ensures.profile in
     let gave = g.C.Cache.held s.cache s.state.table in
     let gives = g.C.Cache.held last.cache last.state.table in
-    let h : gave K ≡ None = ap gave (sym kk) ∙ sym c.in-default.ensures.value in
-    let o₁ = joined_step D ds (state_well s.state) c.key-of-key.result c.in-ok-n.n a e es c.in-Ok.ensures.joined in
+    let h : gave K ≡ None = ap gave (sym kk) ∙ sym c.in_default.ensures.value in
+    let o₁ = joined_step D ds (state_well s.state) c.key_of-key.result c.in_ok-n.n a e es c.in-Ok.ensures.joined in
     let o : ◌≡◌ {A = Outcome} (combine_step D ds c.args.connective c.args.a c.args.b) (Ok e, fs) =
     ap (λ (k : Key). combine_step D ds k.connective k.left k.right) (sym kk) ∙ o₁ ∙ ap (λ (xs : List Diamond). (Ok e, xs)) (sym ef) in
     let m : Remembers D fs gives = subst (λ (p : Profile). Remembers p.meaning fs gives) same (remembers_state last.state gives (g.met.C.Cache.honest last.cache last.state.table)) in
     record {
-      answer = ap Ok c.worked-out.ensures ∙ sym (ap₂ (λ (f : Option Edge) (z : Outcome). answered (given f) z.0) h o);
+      answer = ap Ok c.worked_out.ensures ∙ sym (ap₂ (λ (f : Option Edge) (z : Outcome). answered (given f) z.0) h o);
       diamonds = ap (λ (z : Outcome). z.1) (sym o);
-      right = subst (λ (y : Combined). Answered D ds (joint ds c.args.connective c.args.a c.args.b) fs y.edge) (sym c.worked-out.ensures) (step_right D ds (state_well s.state) c.args.connective c.args.a c.args.b e fs o);
+      right = subst (λ (y : Combined). Answered D ds (joint ds c.args.connective c.args.a c.args.b) fs y.edge) (sym c.worked_out.ensures) (step_right D ds (state_well s.state) c.args.connective c.args.a c.args.b e fs o);
       profile = same;
       long = c.note.ensures.noted.long ∙ c.in-Ok.ensures.long;
       found = λ f. nothing_given (gave K) h f;
@@ -148,24 +148,24 @@ returns-in-Err g c =
     let ds = diamonds_in s.state.diamonds in
     let K = key c.args.connective c.args.a c.args.b in
     let x = c.in-Err.refusal in
-    let t = passed (leb c.args.connective 15) c.in-ok-connective.connective c.args.connective NoConnective c.in-ok-connective.ensures in
-    let kk : c.key-of-key.result ≡ K = c.key-of-key.ensures ∙ ap (λ (n : ℕ). key n c.args.a c.args.b) t.1 in
-    let a = subst (λ (k : Key). KeyOfArity D ds k c.in-ok-n.n) (sym kk) (pair_passed D ds c.args.connective c.args.a c.args.b c.in-ok-n.n t.0 c.in-ok-n.ensures) in
+    let t = passed (leb c.args.connective 15) c.in_ok-connective.connective c.args.connective NoConnective c.in_ok-connective.ensures in
+    let kk : c.key_of-key.result ≡ K = c.key_of-key.ensures ∙ ap (λ (n : ℕ). key n c.args.a c.args.b) t.1 in
+    let a = subst (λ (k : Key). KeyOfArity D ds k c.in_ok-n.n) (sym kk) (pair_passed D ds c.args.connective c.args.a c.args.b c.in_ok-n.n t.0 c.in_ok-n.ensures) in
     let xs = diamonds_in c.join.new.self.state.diamonds in
-    let last = c.take-back.new.self in
+    let last = c.take_back.new.self in
     let fs = diamonds_in last.state.diamonds in
     let gave = g.C.Cache.held s.cache s.state.table in
     let gives = g.C.Cache.held last.cache last.state.table in
-    let h : gave K ≡ None = ap gave (sym kk) ∙ sym c.in-default.ensures.value in
-    let r₁ = refused_step D ds (state_well s.state) c.key-of-key.result c.in-ok-n.n a x xs c.in-Err.ensures.joined in
+    let h : gave K ≡ None = ap gave (sym kk) ∙ sym c.in_default.ensures.value in
+    let r₁ = refused_step D ds (state_well s.state) c.key_of-key.result c.in_ok-n.n a x xs c.in-Err.ensures.joined in
     let o : ◌≡◌ {A = Outcome} (combine_step D ds c.args.connective c.args.a c.args.b) (Err Full, ds) = ap (λ (k : Key). combine_step D ds k.connective k.left k.right) (sym kk) ∙ r₁.0 in
-    let back : fs ≡ ds = c.take-back.ensures.diamonds ∙ ap (λ (n : ℕ). take n xs) c.len-count.ensures ∙ c.in-Err.ensures.joined.begins in
+    let back : fs ≡ ds = c.take_back.ensures.diamonds ∙ ap (λ (n : ℕ). take n xs) c.len-count.ensures ∙ c.in-Err.ensures.joined.begins in
     record {
       answer = ap Err r₁.1 ∙ sym (ap₂ (λ (f : Option Edge) (z : Outcome). answered (given f) z.0) h o);
       diamonds = back ∙ ap (λ (z : Outcome). z.1) (sym o);
       right = tt;
-      profile = c.take-back.ensures.profile ∙ c.in-Err.ensures.profile;
-      long = c.take-back.ensures.long ∙ c.in-Err.ensures.long;
+      profile = c.take_back.ensures.profile ∙ c.in-Err.ensures.profile;
+      long = c.take_back.ensures.long ∙ c.in-Err.ensures.long;
       found = λ f. nothing_given (gave K) h f;
       still = λ y r n.
           let u : Err y ≡ Err Full = sym r ∙ ap Err r₁.1 in
@@ -173,5 +173,5 @@ returns-in-Err g c =
           let w : eqb (refusal_number Full) 7 ≡ false = ap (λ (z : Refusal). eqb (refusal_number z) 7) (sym v) ∙ n in
           let z : ◌≡◌ {A = ℕ} 0 1 = cc in
           absurd (omega arith);
-      map = map_emptied g.C.Cache.keeps D fs K gave gives (combine_step D ds c.args.connective c.args.a c.args.b).0 (ap (λ (z : Outcome). z.0) o) h c.take-back.ensures.map;
+      map = map_emptied g.C.Cache.keeps D fs K gave gives (combine_step D ds c.args.connective c.args.a c.args.b).0 (ap (λ (z : Outcome). z.0) o) h c.take_back.ensures.map;
     }

@@ -12,8 +12,8 @@ use Rattle.engine.proofs.Halfwise.{step_again}
 use Rattle.engine.proofs.Mapped.{map_twice, answered_ok, answered_err}
 use Rattle.engine.proofs.engines.Engine.combine_twice.Goals as goal
 
-pub returns-in-err-second : goal.returns-in-err-second
-returns-in-err-second g c =
+pub returns-in_err-second : goal.returns-in_err-second
+returns-in_err-second g c =
     let s = c.args.self.now in
     let D = s.state.profile.meaning in
     let ds = diamonds_in s.state.diamonds in
@@ -22,13 +22,13 @@ returns-in-err-second g c =
     let b = c.args.b in
     let mid = c.combine.new.self in
     let es = diamonds_in mid.state.diamonds in
-    let one = c.in-ok-first.ensures in
-    let two = c.in-err-second.ensures in
-    let f = answered_ok (given (g.C.Cache.held s.cache s.state.table (key n a b))) (combine_step D ds n a b).0 c.in-ok-first.first one.answer in
-    let o : ◌≡◌ {A = Outcome} (combine_step D ds n a b) (Ok c.in-ok-first.first.edge, es) = ap₂ (λ (r : Result Edge Refusal) (xs : List Diamond). (r, xs)) f.0 (sym one.diamonds) in
-    let o₂ = subst (λ (p : Profile). ◌≡◌ {A = Outcome} (combine_step p.meaning es n a b) (Ok c.in-ok-first.first.edge, es)) (sym one.profile) (step_again D ds (state_well s.state) n a b c.in-ok-first.first.edge es o) in
-    let e = answered_err (given (g.C.Cache.held mid.cache mid.state.table (key n a b))) (combine_step mid.state.profile.meaning es n a b).0 c.in-err-second.field-0.0 two.answer in
-    let q : Ok c.in-ok-first.first.edge ≡ Err c.in-err-second.field-0.0 = ap (λ (z : Outcome). z.0) (sym o₂) ∙ e in
+    let one = c.in_ok-first.ensures in
+    let two = c.in_err-second.ensures in
+    let f = answered_ok (given (g.C.Cache.held s.cache s.state.table (key n a b))) (combine_step D ds n a b).0 c.in_ok-first.first one.answer in
+    let o : ◌≡◌ {A = Outcome} (combine_step D ds n a b) (Ok c.in_ok-first.first.edge, es) = ap₂ (λ (r : Result Edge Refusal) (xs : List Diamond). (r, xs)) f.0 (sym one.diamonds) in
+    let o₂ = subst (λ (p : Profile). ◌≡◌ {A = Outcome} (combine_step p.meaning es n a b) (Ok c.in_ok-first.first.edge, es)) (sym one.profile) (step_again D ds (state_well s.state) n a b c.in_ok-first.first.edge es o) in
+    let e = answered_err (given (g.C.Cache.held mid.cache mid.state.table (key n a b))) (combine_step mid.state.profile.meaning es n a b).0 c.in_err-second.field-0.0 two.answer in
+    let q : Ok c.in_ok-first.first.edge ≡ Err c.in_err-second.field-0.0 = ap (λ (z : Outcome). z.0) (sym o₂) ∙ e in
     let z : ◌≡◌ {A = ℕ} 0 1 = cc in
     absurd (omega arith)
 
@@ -45,17 +45,17 @@ returns g c =
     let last = c.combine-2.new.self in
     let es = diamonds_in mid.state.diamonds in
     let fs = diamonds_in last.state.diamonds in
-    let one = c.in-ok-first.ensures in
-    let two = c.in-ok-second.ensures in
+    let one = c.in_ok-first.ensures in
+    let two = c.in_ok-second.ensures in
     let gave = g.C.Cache.held s.cache s.state.table in
     let between = g.C.Cache.held mid.cache mid.state.table in
     let gives = g.C.Cache.held last.cache last.state.table in
-    let e = c.in-ok-first.first.edge in
-    let f = answered_ok (given (gave K)) (combine_step D ds n a b).0 c.in-ok-first.first one.answer in
+    let e = c.in_ok-first.first.edge in
+    let f = answered_ok (given (gave K)) (combine_step D ds n a b).0 c.in_ok-first.first one.answer in
     let o : ◌≡◌ {A = Outcome} (combine_step D ds n a b) (Ok e, es) = ap₂ (λ (r : Result Edge Refusal) (xs : List Diamond). (r, xs)) f.0 (sym one.diamonds) in
     let o₂ = subst (λ (p : Profile). ◌≡◌ {A = Outcome} (combine_step p.meaning es n a b) (Ok e, es)) (sym one.profile) (step_again D ds (state_well s.state) n a b e es o) in
-    let h = answered_ok (given (between K)) (combine_step mid.state.profile.meaning es n a b).0 c.in-ok-second.second two.answer in
-    let same : c.in-ok-second.second.edge ≡ e = (let q : Ok c.in-ok-second.second.edge ≡ Ok e = sym h.0 ∙ ap (λ (z : Outcome). z.0) o₂ in cc) in
+    let h = answered_ok (given (between K)) (combine_step mid.state.profile.meaning es n a b).0 c.in_ok-second.second two.answer in
+    let same : c.in_ok-second.second.edge ≡ e = (let q : Ok c.in_ok-second.second.edge ≡ Ok e = sym h.0 ∙ ap (λ (z : Outcome). z.0) o₂ in cc) in
     record {
       answer = one.answer;
       same = same;

@@ -31,14 +31,14 @@ returns-then-negates g c =
       map = λ h. let q : true ≡ false = sym n ∙ h in let z : ◌≡◌ {A = ℕ} 0 1 = cc in absurd (omega arith);
     }
 
-pub returns-in-err-combined : goal.returns-in-err-combined
-returns-in-err-combined g c =
+pub returns-in_err-combined : goal.returns-in_err-combined
+returns-in_err-combined g c =
     let s = c.args.self.now in
     let D = s.state.profile.meaning in
     let ds = diamonds_in s.state.diamonds in
     let e = c.args.edge in
-    let x = c.in-err-combined.field-0.0 in
-    let one = c.in-err-combined.ensures in
+    let x = c.in_err-combined.field-0.0 in
+    let one = c.in_err-combined.ensures in
     let fs = diamonds_in c.combine.new.self.state.diamonds in
     let p = err_from_is_err_and c.from-residual.result c.from-residual.ensures.1 in
     let q : c.from-residual.result ≡ Err x = p.1 ∙ ap Err p.2 in
@@ -64,16 +64,16 @@ returns g c =
     let D = s.state.profile.meaning in
     let ds = diamonds_in s.state.diamonds in
     let e = c.args.edge in
-    let one = c.in-ok-combined.ensures in
+    let one = c.in_ok-combined.ensures in
     let fs = diamonds_in c.combine.new.self.state.diamonds in
     let n = not_first_step D ds (state_well s.state) e in
-    let f = answered_ok (given (g.C.Cache.held s.cache s.state.table (key 3 e e))) (combine_step D ds 3 e e).0 c.in-ok-combined.combined one.answer in
-    let answer : Ok c.in-ok-combined.combined.edge ≡ (negate_step D ds e).0 = sym f.0 ∙ ap (λ (z : Outcome). z.0) n in
+    let f = answered_ok (given (g.C.Cache.held s.cache s.state.table (key 3 e e))) (combine_step D ds 3 e e).0 c.in_ok-combined.combined one.answer in
+    let answer : Ok c.in_ok-combined.combined.edge ≡ (negate_step D ds e).0 = sym f.0 ∙ ap (λ (z : Outcome). z.0) n in
     let diamonds : fs ≡ (negate_step D ds e).1 = one.diamonds ∙ ap (λ (z : Outcome). z.1) n in
     record {
       answer = answer;
       diamonds = diamonds;
-      right = negated_made D ds (state_well s.state) e (Ok c.in-ok-combined.combined.edge) fs answer diamonds;
+      right = negated_made D ds (state_well s.state) e (Ok c.in_ok-combined.combined.edge) fs answer diamonds;
       marked = λ h. let t : false ≡ true = c.if-negates.ensures ∙ h in let z : ◌≡◌ {A = ℕ} 0 1 = cc in absurd (omega arith);
       profile = one.profile;
       long = one.long;

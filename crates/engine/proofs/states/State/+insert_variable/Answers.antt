@@ -43,20 +43,20 @@ returns-then-i-eq0 t c =
       table = c.make.ensures.table;
     }
 
-pub returns-in-err-edge : goal.returns-in-err-edge
-returns-in-err-edge t c =
+pub returns-in_err-edge : goal.returns-in_err-edge
+returns-in_err-edge t c =
     let s = c.args.self.now in
     let D = s.profile.meaning in
     let ds = diamonds_in s.diamonds in
-    let xs = diamonds_in c.insert-variable.new.self.diamonds in
+    let xs = diamonds_in c.insert_variable.new.self.diamonds in
     let p = err_from_is_err_and c.from-residual.result c.from-residual.ensures.1 in
-    let q : c.from-residual.result ≡ Err c.in-err-edge.field-0.0 = p.1 ∙ ap Err p.2 in
+    let q : c.from-residual.result ≡ Err c.in_err-edge.field-0.0 = p.1 ∙ ap Err p.2 in
     record {
       outcome =
           ap (λ (r : Result Edge Refusal). (r, xs)) q
-          ∙ sym (refused_later D ((tested D).0 s.profile.sound) ds s.proper c.args.n c.args.i (omega arith) c.requires.below c.in-err-edge.field-0.0 xs c.in-err-edge.ensures.outcome);
-      profile = c.in-err-edge.ensures.profile;
-      table = c.in-err-edge.ensures.table;
+          ∙ sym (refused_later D ((tested D).0 s.profile.sound) ds s.proper c.args.n c.args.i (omega arith) c.requires.below c.in_err-edge.field-0.0 xs c.in_err-edge.ensures.outcome);
+      profile = c.in_err-edge.ensures.profile;
+      table = c.in_err-edge.ensures.table;
     }
 
 pub unwrap-requires : goal.unwrap-requires
@@ -65,23 +65,23 @@ unwrap-requires t c =
     let D = s.profile.meaning in
     let ds = diamonds_in s.diamonds in
     ap is_some (c.with_letter.ensures
-    ∙ later_set D ((tested D).0 s.profile.sound) ds s.proper c.args.n c.args.i (omega arith) c.requires.below c.in-ok-edge.edge (diamonds_in c.insert-variable.new.self.diamonds) c.requires.short c.in-ok-edge.ensures.outcome)
+    ∙ later_set D ((tested D).0 s.profile.sound) ds s.proper c.args.n c.args.i (omega arith) c.requires.below c.in_ok-edge.edge (diamonds_in c.insert_variable.new.self.diamonds) c.requires.short c.in_ok-edge.ensures.outcome)
 
 pub returns : goal.returns
 returns t c =
     let s = c.args.self.now in
     let D = s.profile.meaning in
     let ds = diamonds_in s.diamonds in
-    let xs = diamonds_in c.insert-variable.new.self.diamonds in
+    let xs = diamonds_in c.insert_variable.new.self.diamonds in
     let law = (tested D).0 s.profile.sound in
-    let p : Some c.unwrap.result ≡ Some (edge_record (put U (edge_of c.in-ok-edge.edge))) =
+    let p : Some c.unwrap.result ≡ Some (edge_record (put U (edge_of c.in_ok-edge.edge))) =
     sym c.unwrap.ensures ∙ c.with_letter.ensures
-    ∙ later_set D law ds s.proper c.args.n c.args.i (omega arith) c.requires.below c.in-ok-edge.edge xs c.requires.short c.in-ok-edge.ensures.outcome in
-    let q : c.unwrap.result ≡ edge_record (put U (edge_of c.in-ok-edge.edge)) = cc in
+    ∙ later_set D law ds s.proper c.args.n c.args.i (omega arith) c.requires.below c.in_ok-edge.edge xs c.requires.short c.in_ok-edge.ensures.outcome in
+    let q : c.unwrap.result ≡ edge_record (put U (edge_of c.in_ok-edge.edge)) = cc in
     record {
       outcome =
           ap (λ (r : Edge). (Ok r, xs)) q
-          ∙ sym (inserted_later D law ds s.proper c.args.n c.args.i (omega arith) c.requires.below c.in-ok-edge.edge xs c.in-ok-edge.ensures.outcome);
-      profile = c.in-ok-edge.ensures.profile;
-      table = c.in-ok-edge.ensures.table;
+          ∙ sym (inserted_later D law ds s.proper c.args.n c.args.i (omega arith) c.requires.below c.in_ok-edge.edge xs c.in_ok-edge.ensures.outcome);
+      profile = c.in_ok-edge.ensures.profile;
+      table = c.in_ok-edge.ensures.table;
     }

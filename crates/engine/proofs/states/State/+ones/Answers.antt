@@ -82,8 +82,8 @@ returns-then-same t c =
 pub overflow-sub-n-2 : goal.overflow-sub-n-2
 overflow-sub-n-2 t c = (some_marks c.args.self.now c.args.edge c.args.n c.requires (sym c.in-Mixed.ensures)).0
 
-pub ones-of-low-requires : goal.ones-of-low-requires
-ones-of-low-requires t c =
+pub ones-of_low-requires : goal.ones-of_low-requires
+ones-of_low-requires t c =
     let p = (some_marks c.args.self.now c.args.edge c.args.n c.requires (sym c.in-Mixed.ensures)).0 in
     let m = c.decreases in
     (omega arith, c.half-low.ensures.edge)
@@ -91,39 +91,39 @@ ones-of-low-requires t c =
 pub overflow-sub-n-else-same-2 : goal.overflow-sub-n-else-same-2
 overflow-sub-n-else-same-2 t c = (some_marks c.args.self.now c.args.edge c.args.n c.requires (sym c.in-Mixed.ensures)).0
 
-pub ones-of-high-requires : goal.ones-of-high-requires
-ones-of-high-requires t c =
+pub ones-of_high-requires : goal.ones-of_high-requires
+ones-of_high-requires t c =
     let p = (some_marks c.args.self.now c.args.edge c.args.n c.requires (sym c.in-Mixed.ensures)).0 in
     let m = c.decreases in
     (omega arith, c.half-high.ensures.edge)
 
-pub of-halves-requires : goal.of-halves-requires
-of-halves-requires t c =
+pub of_halves-requires : goal.of_halves-requires
+of_halves-requires t c =
     let s = c.args.self.now in
     let D = s.profile.meaning in
     let ds = held s in
-    let of-high : c.if-same-2.of-high ≡ ones (rule_of (store_of ds) (edge_of c.half-high.result)) =
+    let of_high : c.if-same-2.of_high ≡ ones (rule_of (store_of ds) (edge_of c.half-high.result)) =
     elim c.if-same-2.branch [
-      | then-same-2 w ↦ w.of-high-is ∙ c.ones-of-low.ensures ∙ ones_same ds c.half-low.result c.half-high.result (sym w.if-same-2.ensures)
-      | else-same-2 w ↦ w.of-high-is ∙ w.ones-of-high.ensures
+      | then-same-2 w ↦ w.of_high-is ∙ c.ones-of_low.ensures ∙ ones_same ds c.half-low.result c.half-high.result (sym w.if-same-2.ensures)
+      | else-same-2 w ↦ w.of_high-is ∙ w.ones-of_high.ensures
     ] in
     let p = both_most D (law s) ds s.proper c.args.edge c.args.n c.requires (sym c.in-Mixed.ensures) c.half-low.result c.half-high.result
     (half_of s false c.args.edge c.unmarked-upright.result c.half-low.result c.half-low.ensures.half c.unmarked-upright.ensures)
     (half_of s true c.args.edge c.unmarked-upright.result c.half-high.result c.half-high.ensures.half c.unmarked-upright.ensures) in
-    record { short = marks_few D (law s) ds s.proper c.args.edge c.args.n c.requires; most = omega (arith, p.0, of-high, c.ones-of-low.ensures); few = omega (arith, p.1, of-high, c.ones-of-low.ensures) }
+    record { short = marks_few D (law s) ds s.proper c.args.edge c.args.n c.requires; most = omega (arith, p.0, of_high, c.ones-of_low.ensures); few = omega (arith, p.1, of_high, c.ones-of_low.ensures) }
 
 pub returns : goal.returns
 returns t c =
     let s = c.args.self.now in
     let D = s.profile.meaning in
     let ds = held s in
-    let of-high : c.if-same-2.of-high ≡ ones (rule_of (store_of ds) (edge_of c.half-high.result)) =
+    let of_high : c.if-same-2.of_high ≡ ones (rule_of (store_of ds) (edge_of c.half-high.result)) =
     elim c.if-same-2.branch [
-      | then-same-2 w ↦ w.of-high-is ∙ c.ones-of-low.ensures ∙ ones_same ds c.half-low.result c.half-high.result (sym w.if-same-2.ensures)
-      | else-same-2 w ↦ w.of-high-is ∙ w.ones-of-high.ensures
+      | then-same-2 w ↦ w.of_high-is ∙ c.ones-of_low.ensures ∙ ones_same ds c.half-low.result c.half-high.result (sym w.if-same-2.ensures)
+      | else-same-2 w ↦ w.of_high-is ∙ w.ones-of_high.ensures
     ] in
-    c.of-halves.ensures
-    ∙ ap₂ (λ (x y : ℕ). cond c.args.edge.negated (2 ^ c.args.n - (x + y)) (x + y)) c.ones-of-low.ensures of-high
+    c.of_halves.ensures
+    ∙ ap₂ (λ (x y : ℕ). cond c.args.edge.negated (2 ^ c.args.n - (x + y)) (x + y)) c.ones-of_low.ensures of_high
     ∙ both_marked D (law s) ds s.proper c.args.edge c.args.n c.requires (sym c.in-Mixed.ensures) c.half-low.result c.half-high.result
     (half_of s false c.args.edge c.unmarked-upright.result c.half-low.result c.half-low.ensures.half c.unmarked-upright.ensures)
     (half_of s true c.args.edge c.unmarked-upright.result c.half-high.result c.half-high.ensures.half c.unmarked-upright.ensures)

@@ -17,6 +17,6 @@ returns t c =
     let s = c.args.self.now in
     let D = s.profile.meaning in
     let ds = diamonds_in s.diamonds in
-    let p = c.half-half.ensures.half ∙ ap (λ (b : Bool). half_at b D (store_of ds) (edge_of c.args.edge)) c.first-mark.ensures in
+    let p = c.half-half.ensures.half ∙ ap (λ (b : Bool). half_at b D (store_of ds) (edge_of c.args.edge)) c.first_mark.ensures in
     c.value.ensures
     ∙ half_value D ((tested D).0 s.profile.sound) ds s.proper c.args.edge c.args.n c.requires (omega arith) c.half-half.result c.args.assignment p

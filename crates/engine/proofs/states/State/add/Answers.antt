@@ -17,13 +17,13 @@ returns-in-Some c =
     let s = c.args.self.now in
     let ds = diamonds_in s.diamonds in
     record {
-      outcome = ap (λ (r : Edge). (Ok r, ds)) c.edge-to.ensures ∙ sym (add_found s.profile.meaning ds c.args.diamond s.spelled c.requires c.in-Some.k (few_in s.diamonds) (sym c.in-Some.ensures));
+      outcome = ap (λ (r : Edge). (Ok r, ds)) c.edge_to.ensures ∙ sym (add_found s.profile.meaning ds c.args.diamond s.spelled c.requires c.in-Some.k (few_in s.diamonds) (sym c.in-Some.ensures));
       profile = refl;
       table = refl;
     }
 
-pub edge-to-requires : goal.edge-to-requires
-edge-to-requires c =
+pub edge_to-requires : goal.edge_to-requires
+edge_to-requires c =
     let s = c.args.self.now in
     omega (arith, number_less (diamonds_in s.diamonds) c.args.diamond c.in-Some.k (sym c.in-Some.ensures), few_in s.diamonds)
 
@@ -34,7 +34,7 @@ invariant-of-self c =
     let ds = diamonds_in s.diamonds in
     let xs = diamonds_in c.push.new.self in
     let is = sym c.push.ensures.diamonds in
-    let p = pushed_well D ds (state_well s) c.args.diamond c.requires (sym c.in-default.ensures) in
+    let p = pushed_well D ds (state_well s) c.args.diamond c.requires (sym c.in_default.ensures) in
     let w = subst (HeldWell D) is p.0 in
     (w.normal.1, (w.normal.0, (shallow_met (store_of xs) w.shallow, (s.wide, (λ k e h. subst (λ (ys : List Diamond). right_for D ys k e ≡ true) is (p.1 k e (s.right k e h)), tt)))))
 
@@ -42,7 +42,7 @@ pub returns-in-None : goal.returns-in-None
 returns-in-None c =
     let s = c.args.self.now in
     record {
-      outcome = pushed_full s.profile.meaning (diamonds_in s.diamonds) (state_well s) c.args.diamond c.requires (sym c.in-default.ensures) (diamonds_in c.push.new.self) c.in-None.ensures.answer c.in-None.ensures.diamonds;
+      outcome = pushed_full s.profile.meaning (diamonds_in s.diamonds) (state_well s) c.args.diamond c.requires (sym c.in_default.ensures) (diamonds_in c.push.new.self) c.in-None.ensures.answer c.in-None.ensures.diamonds;
       profile = refl;
       table = refl;
     }
@@ -50,14 +50,14 @@ returns-in-None c =
 pub returns-in-Some-push : goal.returns-in-Some-push
 returns-in-Some-push c =
     let s = c.args.self.now in
-    let p = pushed_new s.profile.meaning (diamonds_in s.diamonds) (state_well s) c.args.diamond c.requires (sym c.in-default.ensures) c.in-Some-push.k (diamonds_in c.push.new.self) c.in-Some-push.ensures.answer c.in-Some-push.ensures.diamonds in
+    let p = pushed_new s.profile.meaning (diamonds_in s.diamonds) (state_well s) c.args.diamond c.requires (sym c.in_default.ensures) c.in-Some-push.k (diamonds_in c.push.new.self) c.in-Some-push.ensures.answer c.in-Some-push.ensures.diamonds in
     record {
-      outcome = ap (λ (r : Edge). (Ok r, diamonds_in c.push.new.self)) c.edge-to-in-Some-push.ensures ∙ p.1;
+      outcome = ap (λ (r : Edge). (Ok r, diamonds_in c.push.new.self)) c.edge_to-in-Some-push.ensures ∙ p.1;
       profile = refl;
       table = refl;
     }
 
-pub edge-to-requires-in-Some-push : goal.edge-to-requires-in-Some-push
-edge-to-requires-in-Some-push c =
+pub edge_to-requires-in-Some-push : goal.edge_to-requires-in-Some-push
+edge_to-requires-in-Some-push c =
     let s = c.args.self.now in
-    (pushed_new s.profile.meaning (diamonds_in s.diamonds) (state_well s) c.args.diamond c.requires (sym c.in-default.ensures) c.in-Some-push.k (diamonds_in c.push.new.self) c.in-Some-push.ensures.answer c.in-Some-push.ensures.diamonds).0
+    (pushed_new s.profile.meaning (diamonds_in s.diamonds) (state_well s) c.args.diamond c.requires (sym c.in_default.ensures) c.in-Some-push.k (diamonds_in c.push.new.self) c.in-Some-push.ensures.answer c.in-Some-push.ensures.diamonds).0

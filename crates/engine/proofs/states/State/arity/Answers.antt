@@ -8,13 +8,13 @@ use Rattle.engine.proofs.states.State.arity.Goals as goal
 pub overflow-cast-result : goal.overflow-cast-result
 overflow-cast-result c =
     let s = c.args.self.now in
-    let l = marks_most s.profile.meaning (diamonds_in s.diamonds) c.as-slice.result.now c.args.edge c.arity.result (sym c.as-slice.ensures) (sym c.requires) c.arity.ensures in
+    let l = marks_most s.profile.meaning (diamonds_in s.diamonds) c.as_slice.result.now c.args.edge c.arity.result (sym c.as_slice.ensures) (sym c.requires) c.arity.ensures in
     omega arith
 
 pub returns : goal.returns
 returns c =
     let s = c.args.self.now in
     record {
-      value = c.arity.ensures ∙ ap (λ (xs : List Diamond). arity_in xs c.args.edge) c.as-slice.ensures;
-      short = marks_most s.profile.meaning (diamonds_in s.diamonds) c.as-slice.result.now c.args.edge c.arity.result (sym c.as-slice.ensures) (sym c.requires) c.arity.ensures;
+      value = c.arity.ensures ∙ ap (λ (xs : List Diamond). arity_in xs c.args.edge) c.as_slice.ensures;
+      short = marks_most s.profile.meaning (diamonds_in s.diamonds) c.as_slice.result.now c.args.edge c.arity.result (sym c.as_slice.ensures) (sym c.requires) c.arity.ensures;
     }

@@ -45,28 +45,28 @@ add-requires c =
     let s = c.args.self.now in
     let D = s.profile.meaning in
     let e : letter_for D c.args.low c.args.high ≡ None =
-    ap (λ (m : Meaning). letter_for m c.args.low c.args.high) (sym c.meaning.ensures.value) ∙ sym c.in-default.ensures in
+    ap (λ (m : Meaning). letter_for m c.args.low c.args.high) (sym c.meaning.ensures.value) ∙ sym c.in_default.ensures in
     let j = joins_flipped D (diamonds_in s.diamonds) c.args.low c.args.high c.requires ((tested D).0 s.profile.sound) e c.if-low.true in
     let p : ◌≡◌ {A = Diamond} (record { low = other_mark c.args.low; high = other_mark c.args.high }) (record { low = c.flip.result; high = c.flip-then-low.result }) =
     λ i. record { low = sym c.flip.ensures i; high = sym c.flip-then-low.ensures i } in
     subst (λ (d : Diamond). Joins D (diamonds_in s.diamonds) d) p j
 
-pub returns-in-err-edge : goal.returns-in-err-edge
-returns-in-err-edge c =
+pub returns-in_err-edge : goal.returns-in_err-edge
+returns-in_err-edge c =
     let s = c.args.self.now in
     let D = s.profile.meaning in
     let ds = diamonds_in s.diamonds in
     let e : letter_for D c.args.low c.args.high ≡ None =
-    ap (λ (m : Meaning). letter_for m c.args.low c.args.high) (sym c.meaning.ensures.value) ∙ sym c.in-default.ensures in
-    let o = c.in-err-edge.ensures.outcome ∙ ap₂ (λ (l h : Edge). kept ds (add (store_of ds) (edge_of l) (edge_of h))) c.flip.ensures c.flip-then-low.ensures in
+    ap (λ (m : Meaning). letter_for m c.args.low c.args.high) (sym c.meaning.ensures.value) ∙ sym c.in_default.ensures in
+    let o = c.in_err-edge.ensures.outcome ∙ ap₂ (λ (l h : Edge). kept ds (add (store_of ds) (edge_of l) (edge_of h))) c.flip.ensures c.flip-then-low.ensures in
     let p = err_from_is_err_and c.from-residual.result c.from-residual.ensures.1 in
-    let q : c.from-residual.result ≡ Err c.in-err-edge.field-0.0 = p.1 ∙ ap Err p.2 in
+    let q : c.from-residual.result ≡ Err c.in_err-edge.field-0.0 = p.1 ∙ ap Err p.2 in
     record {
       outcome =
           ap (λ (r : Result Edge Refusal). (r, diamonds_in c.add.new.self.diamonds)) q
-          ∙ sym (made_flipped D ds c.args.low c.args.high c.requires e c.if-low.true ∙ kept_flipped ds (add (store_of ds) (flip (edge_of c.args.low)) (flip (edge_of c.args.high))) (Err c.in-err-edge.field-0.0) (diamonds_in c.add.new.self.diamonds) o);
-      profile = c.in-err-edge.ensures.profile;
-      table = c.in-err-edge.ensures.table;
+          ∙ sym (made_flipped D ds c.args.low c.args.high c.requires e c.if-low.true ∙ kept_flipped ds (add (store_of ds) (flip (edge_of c.args.low)) (flip (edge_of c.args.high))) (Err c.in_err-edge.field-0.0) (diamonds_in c.add.new.self.diamonds) o);
+      profile = c.in_err-edge.ensures.profile;
+      table = c.in_err-edge.ensures.table;
     }
 
 pub returns-then-low : goal.returns-then-low
@@ -75,14 +75,14 @@ returns-then-low c =
     let D = s.profile.meaning in
     let ds = diamonds_in s.diamonds in
     let e : letter_for D c.args.low c.args.high ≡ None =
-    ap (λ (m : Meaning). letter_for m c.args.low c.args.high) (sym c.meaning.ensures.value) ∙ sym c.in-default.ensures in
-    let o = c.in-ok-edge.ensures.outcome ∙ ap₂ (λ (l h : Edge). kept ds (add (store_of ds) (edge_of l) (edge_of h))) c.flip.ensures c.flip-then-low.ensures in
+    ap (λ (m : Meaning). letter_for m c.args.low c.args.high) (sym c.meaning.ensures.value) ∙ sym c.in_default.ensures in
+    let o = c.in_ok-edge.ensures.outcome ∙ ap₂ (λ (l h : Edge). kept ds (add (store_of ds) (edge_of l) (edge_of h))) c.flip.ensures c.flip-then-low.ensures in
     record {
       outcome =
           ap (λ (r : Edge). (Ok r, diamonds_in c.add.new.self.diamonds)) c.flip-then-low-2.ensures
-          ∙ sym (made_flipped D ds c.args.low c.args.high c.requires e c.if-low.true ∙ kept_flipped ds (add (store_of ds) (flip (edge_of c.args.low)) (flip (edge_of c.args.high))) (Ok c.in-ok-edge.edge) (diamonds_in c.add.new.self.diamonds) o);
-      profile = c.in-ok-edge.ensures.profile;
-      table = c.in-ok-edge.ensures.table;
+          ∙ sym (made_flipped D ds c.args.low c.args.high c.requires e c.if-low.true ∙ kept_flipped ds (add (store_of ds) (flip (edge_of c.args.low)) (flip (edge_of c.args.high))) (Ok c.in_ok-edge.edge) (diamonds_in c.add.new.self.diamonds) o);
+      profile = c.in_ok-edge.ensures.profile;
+      table = c.in_ok-edge.ensures.table;
     }
 
 pub add-requires-2 : goal.add-requires-2
@@ -90,7 +90,7 @@ add-requires-2 c =
     let s = c.args.self.now in
     let D = s.profile.meaning in
     let e : letter_for D c.args.low c.args.high ≡ None =
-    ap (λ (m : Meaning). letter_for m c.args.low c.args.high) (sym c.meaning.ensures.value) ∙ sym c.in-default.ensures in
+    ap (λ (m : Meaning). letter_for m c.args.low c.args.high) (sym c.meaning.ensures.value) ∙ sym c.in_default.ensures in
     joins_upright D (diamonds_in s.diamonds) c.args.low c.args.high c.requires e c.if-low.false
 
 pub returns : goal.returns
@@ -99,7 +99,7 @@ returns c =
     let D = s.profile.meaning in
     let ds = diamonds_in s.diamonds in
     let e : letter_for D c.args.low c.args.high ≡ None =
-    ap (λ (m : Meaning). letter_for m c.args.low c.args.high) (sym c.meaning.ensures.value) ∙ sym c.in-default.ensures in
+    ap (λ (m : Meaning). letter_for m c.args.low c.args.high) (sym c.meaning.ensures.value) ∙ sym c.in_default.ensures in
     record {
       outcome = c.add-2.ensures.outcome ∙ sym (made_upright D ds c.args.low c.args.high c.requires e c.if-low.false);
       profile = c.add-2.ensures.profile;

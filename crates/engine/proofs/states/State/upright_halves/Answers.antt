@@ -9,10 +9,10 @@ use Rattle.diagram.proofs.Recorded.{edge_made}
 use Rattle.engine.proofs.Halved.{standing, no_letters, to_diamond, letter_spelled, letter_low, letter_high, spelled_at, diamond_low, diamond_high}
 use Rattle.engine.proofs.states.State.upright_halves.Goals as goal
 
-pub bounds-as-slice-k : goal.bounds-as-slice-k
-bounds-as-slice-k c =
+pub bounds-as_slice-k : goal.bounds-as_slice-k
+bounds-as_slice-k c =
     let s = c.args.self.now in
-    let l = ap length c.as-slice.ensures in
+    let l = ap length c.as_slice.ensures in
     omega (arith, standing s.profile.meaning (diamonds_in s.diamonds) c.args.edge c.args.n c.requires.edge c.in-Diamond.k c.in-Diamond.is, l)
 
 pub returns-in-Some : goal.returns-in-Some
@@ -42,7 +42,7 @@ returns-in-Diamond c =
     let e = c.args.edge in
     let n = c.args.n in
     let k = c.in-Diamond.k in
-    let is : get_or c.as-slice.result.now k no_diamond ≡ get_or ds k no_diamond = ap (λ (xs : List Diamond). get_or xs k no_diamond) c.as-slice.ensures in
+    let is : get_or c.as_slice.result.now k no_diamond ≡ get_or ds k no_diamond = ap (λ (xs : List Diamond). get_or xs k no_diamond) c.as_slice.ensures in
     let z = no_letters D ds e n c.requires.edge (sym c.in-None.ensures.value) in
     let q = spelled_at ds k no_diamond s.spelled (standing D ds e n c.requires.edge k c.in-Diamond.is) in
     record {
@@ -51,7 +51,7 @@ returns-in-Diamond c =
       high = ap (λ (x : Diamond). edge_of x.high) is ∙ diamond_high D ds e n c.requires.edge k no_diamond z c.in-Diamond.is;
     }
 
-pub returns-in-default : goal.returns-in-default
-returns-in-default c =
+pub returns-in_default : goal.returns-in_default
+returns-in_default c =
     let s = c.args.self.now in
-    absurd (to_diamond s.profile.meaning (diamonds_in s.diamonds) c.args.edge c.args.n c.requires.edge c.requires.some (sym c.in-None.ensures.value) c.in-default.not-Diamond)
+    absurd (to_diamond s.profile.meaning (diamonds_in s.diamonds) c.args.edge c.args.n c.requires.edge c.requires.some (sym c.in-None.ensures.value) c.in_default.not-Diamond)

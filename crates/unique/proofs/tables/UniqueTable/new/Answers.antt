@@ -7,12 +7,12 @@ use Rattle.unique.proofs.tables.UniqueTable.new.Goals as goal
 
 pub invariant-of-result : goal.invariant-of-result
 invariant-of-result c =
-    let ds = c.in-ok-diamonds.diamonds in
-    let hs = c.in-ok-heads.heads in
-    let ls = c.in-ok-links.links in
-    let d = c.in-ok-diamonds.ensures in
-    let h = c.in-ok-heads.ensures in
-    let l = c.in-ok-links.ensures in
+    let ds = c.in_ok-diamonds.diamonds in
+    let hs = c.in_ok-heads.heads in
+    let ls = c.in_ok-links.links in
+    let d = c.in_ok-diamonds.ensures in
+    let h = c.in_ok-heads.ensures in
+    let l = c.in_ok-links.ensures in
     let few : vec_len ds ≤ 1024 = omega (arith, ds.ok.0, ap length d.0) in
     let wide : vec_len hs ≡ 2039 = hs.ok.0 ∙ ap length h ∙ length-replicate {A = Option ℕ} 2039 None in
     let level : vec_len ls ≡ vec_len ds = omega (arith, ls.ok.0, ap length l.0, ds.ok.0, ap length d.0) in

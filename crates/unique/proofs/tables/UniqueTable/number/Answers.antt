@@ -9,11 +9,11 @@ loop-next-init c =
     let ds = diamonds_in c.args.self.now in
     subst (FoundFrom ds c.args.diamond) (sym c.head-next.ensures) (found_start ds c.args.diamond)
 
-pub returns-then-is-at : goal.returns-then-is-at
-returns-then-is-at c =
+pub returns-then-is_at : goal.returns-then-is_at
+returns-then-is_at c =
     let ds = diamonds_in c.args.self.now in
     let f = subst (FoundFrom ds c.args.diamond) c.in-Some.is c.loop-next.invariant in
-    sym (found_here ds c.args.diamond c.in-Some.k f (sym (c.if-is-at.ensures no_diamond)))
+    sym (found_here ds c.args.diamond c.in-Some.k f (sym (c.if-is_at.ensures no_diamond)))
 
 pub loop-next-smaller : goal.loop-next-smaller
 loop-next-smaller c =
@@ -26,4 +26,4 @@ pub loop-next-preserved : goal.loop-next-preserved
 loop-next-preserved c =
     let ds = diamonds_in c.args.self.now in
     let f = subst (FoundFrom ds c.args.diamond) c.in-Some.is c.loop-next.invariant in
-    subst (FoundFrom ds c.args.diamond) (sym c.link-next.ensures) (found_next ds c.args.diamond c.in-Some.k f (sym (c.if-is-at.ensures no_diamond)))
+    subst (FoundFrom ds c.args.diamond) (sym c.link-next.ensures) (found_next ds c.args.diamond c.in-Some.k f (sym (c.if-is_at.ensures no_diamond)))

@@ -12,15 +12,15 @@ invariant-of-self c =
     let d = c.args.diamond in
     let ds = vec_items t.diamonds in
     let hs = vec_items t.heads in
-    let new = c.push-reserved.new.self in
-    let is = c.push-reserved.ensures.items in
+    let new = c.push_reserved.new.self in
+    let is = c.push_reserved.ensures.items in
     let k : c.len-k.result ≡ length ds = c.len-k.ensures ∙ t.diamonds.ok.0 in
-    let less : c.len-k.result < 1024 = leb-false 1024 c.len-k.result (sym c.if-is-full.ensures) in
-    let few : vec_len new ≤ 1024 = omega (arith, c.push-reserved.ensures.len, c.len-k.ensures, less) in
-    let room : 1024 ≤ vec_capacity new = omega (arith, t.room, c.push-reserved.ensures.capacity) in
+    let less : c.len-k.result < 1024 = leb-false 1024 c.len-k.result (sym c.if-is_full.ensures) in
+    let few : vec_len new ≤ 1024 = omega (arith, c.push_reserved.ensures.len, c.len-k.ensures, less) in
+    let room : 1024 ≤ vec_capacity new = omega (arith, t.room, c.push_reserved.ensures.capacity) in
     let spare : 1024 ≤ vec_capacity c.chain.new.links = omega (arith, t.spare, c.chain.ensures.room) in
     let level : vec_len c.chain.new.links ≡ vec_len new =
-    omega (arith, c.chain.new.links.ok.0, ap length c.chain.ensures.links, length_push (vec_items t.links) (get_or hs (bucket_of d) None), t.links.ok.0, t.level, c.push-reserved.ensures.len) in
+    omega (arith, c.chain.new.links.ok.0, ap length c.chain.ensures.links, length_push (vec_items t.links) (get_or hs (bucket_of d) None), t.links.ok.0, t.level, c.push_reserved.ensures.len) in
     let begun : Begun (vec_items c.chain.new.heads) (vec_items new) =
     λ b i.
     ap (λ (xs : List (Option ℕ)). get_or xs b None) (c.chain.ensures.heads ∙ ap (λ (n : ℕ). set hs (bucket_of d) (Some n)) k)
