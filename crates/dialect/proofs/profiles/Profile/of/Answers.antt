@@ -4,8 +4,8 @@ use Rattle.diagram.specs.declared.meanings.Meaning.{Meaning}
 use Rattle.diagram.specs.Dialects.{lawful}
 use Rattle.dialect.proofs.profiles.Profile.of.Goals as goal
 
-pub invariant-of-result : goal.invariant-of-result
-invariant-of-result g c =
+pub invariant_of-result : goal.invariant_of-result
+invariant_of-result g c =
     let asked : Meaning = record { code = c.coded.result; negates = c.negating.result; letters = c.letters_of.result; answers = c.answers_of.result } in
     let e : asked ≡ g.D.Dialect.meaning = search rules in
-    (subst (λ (m : Meaning). lawful m ≡ true) (sym e) g.met.D.Dialect.sound, tt)
+    record { sound = subst (λ (m : Meaning). lawful m ≡ true) (sym e) g.met.D.Dialect.sound }

@@ -5,8 +5,8 @@ use Rattle.cache.specs.Tables.{table_places, Stands}
 use Rattle.engine.proofs.Remembered.{nothing_stands}
 use Rattle.engine.proofs.engines.Engine.new.Goals as goal
 
-pub invariant-of-state : goal.invariant-of-state
-invariant-of-state g c =
+pub invariant_of-state : goal.invariant_of-state
+invariant_of-state g c =
     let t = c.in_ok-table.table in
     let l : length (table_places c.forget.new.table) ≡ length (table_places t) = ap length c.forget.ensures.empty ∙ length-replicate (length (table_places t)) None in
     let m : length (table_places t) ≡ g.C.Cache.wants c.args.cache = ap length c.in_ok-table.ensures ∙ length-replicate (g.C.Cache.wants c.args.cache) None in

@@ -27,8 +27,8 @@ edge_to-requires c =
     let s = c.args.self.now in
     omega (arith, number_less (diamonds_in s.diamonds) c.args.diamond c.in-Some.k (sym c.in-Some.ensures), few_in s.diamonds)
 
-pub invariant-of-self : goal.invariant-of-self
-invariant-of-self c =
+pub invariant_of-self : goal.invariant_of-self
+invariant_of-self c =
     let s = c.args.self.now in
     let D = s.profile.meaning in
     let ds = diamonds_in s.diamonds in

@@ -8,8 +8,8 @@ use Rattle.engine.specs.Laws.{HeldWell}
 use Rattle.engine.proofs.Remembered.{nothing_stands}
 use Rattle.engine.proofs.states.State.cut.Goals as goal
 
-pub invariant-of-self : goal.invariant-of-self
-invariant-of-self c =
+pub invariant_of-self : goal.invariant_of-self
+invariant_of-self c =
     let s = c.args.self.now in
     let w = subst (HeldWell s.profile.meaning) (sym c.cut.ensures) c.requires.well in
     (w.normal.1, (w.normal.0, (shallow_met (store_of (diamonds_in c.cut.new.self)) w.shallow, (s.wide, ((λ k e h. absurd (nothing_stands (length (table_places s.table)) k e (subst (λ (ps : List (Option Entry)). Stands ps k e) c.requires.empty h))), tt)))))

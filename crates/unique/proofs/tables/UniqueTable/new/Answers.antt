@@ -5,8 +5,8 @@ use Rattle.unique.specs.Index.{newest_in, links_of}
 use Rattle.unique.proofs.Fronts.{Begun}
 use Rattle.unique.proofs.tables.UniqueTable.new.Goals as goal
 
-pub invariant-of-result : goal.invariant-of-result
-invariant-of-result c =
+pub invariant_of-result : goal.invariant_of-result
+invariant_of-result c =
     let ds = c.in_ok-diamonds.diamonds in
     let hs = c.in_ok-heads.heads in
     let ls = c.in_ok-links.links in
@@ -19,4 +19,4 @@ invariant-of-result c =
     let begun : Begun (vec_items hs) (vec_items ds) =
     λ b i. ap (λ (xs : List (Option ℕ)). get_or xs b None) h ∙ get_or-replicate 2039 b None None i ∙ sym (ap (λ (xs : List Diamond). newest_in b (reverse xs)) d.0) in
     let chained : vec_items ls ≡ links_of (reverse (vec_items ds)) = l.0 ∙ sym (ap (λ (xs : List Diamond). links_of (reverse xs)) d.0) in
-    (few, (d.1, (l.1, (wide, (level, (begun, (chained, tt)))))))
+    record { few = few; room = d.1; spare = l.1; wide = wide; level = level; begun = begun; chained = chained }

@@ -8,8 +8,8 @@ use Rattle.unique.proofs.Chained.{length_links}
 use Rattle.unique.proofs.Fronts.{Begun, heads_cut, links_cut, links_last}
 use Rattle.unique.proofs.tables.UniqueTable.pop.Goals as goal
 
-pub invariant-of-self : goal.invariant-of-self
-invariant-of-self c =
+pub invariant_of-self : goal.invariant_of-self
+invariant_of-self c =
     let t = c.args.self.now in
     let d = c.in-Some.diamond in
     let new = c.pop.new.self in
@@ -32,4 +32,4 @@ invariant-of-self c =
     let room : 1024 ≤ vec_capacity new = omega (arith, t.room, c.pop.ensures.capacity) in
     let spare : 1024 ≤ vec_capacity ls' = omega (arith, t.spare, c.unchain.ensures.room) in
     let level : vec_len ls' ≡ vec_len new = ls'.ok.0 ∙ ap length chained ∙ length_links (reverse ds) ∙ length-reverse ds ∙ sym new.ok.0 in
-    (few, (room, (spare, (c.unchain.ensures.wide, (level, (begun, (chained, tt)))))))
+    record { few = few; room = room; spare = spare; wide = c.unchain.ensures.wide; level = level; begun = begun; chained = chained }

@@ -6,8 +6,8 @@ use Rattle.unique.specs.Index.{bucket_of, newest_in, links_of}
 use Rattle.unique.proofs.Fronts.{Begun, bucket_less, heads_push, links_push}
 use Rattle.unique.proofs.tables.UniqueTable.push.Goals as goal
 
-pub invariant-of-self : goal.invariant-of-self
-invariant-of-self c =
+pub invariant_of-self : goal.invariant_of-self
+invariant_of-self c =
     let t = c.args.self.now in
     let d = c.args.diamond in
     let ds = vec_items t.diamonds in
@@ -31,4 +31,4 @@ invariant-of-self c =
     ∙ ap₂ (λ (xs : List (Option ℕ)) (o : Option ℕ). xs ++ (o ∷ [])) t.chained (t.begun (bucket_of d) (bucket_less d))
     ∙ sym (links_push ds d)
     ∙ sym (ap (λ (xs : List Diamond). links_of (reverse xs)) is) in
-    (few, (room, (spare, (c.chain.ensures.wide, (level, (begun, (chained, tt)))))))
+    record { few = few; room = room; spare = spare; wide = c.chain.ensures.wide; level = level; begun = begun; chained = chained }
