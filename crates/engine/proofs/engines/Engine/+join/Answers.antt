@@ -45,8 +45,8 @@ half_key-high_key-requires g t c = record {
   some = unsettled_some c.args.self.now.state c.args.key c.args.n c.requires c.meaning.result c.meaning.ensures.value c.in_default.ensures;
 }
 
-pub overflow-sub-n : goal.overflow-sub-n
-overflow-sub-n g t c =
+pub overflow_sub-n : goal.overflow_sub-n
+overflow_sub-n g t c =
     omega (arith, unsettled_some c.args.self.now.state c.args.key c.args.n c.requires c.meaning.result c.meaning.ensures.value c.in_default.ensures)
 
 pub join-requires : goal.join-requires
@@ -59,28 +59,28 @@ pub returns-in_err-low : goal.returns-in_err-low
 returns-in_err-low g t c =
     let s = c.args.self.now.state in
     let i = unsettled_some s c.args.key c.args.n c.requires c.meaning.result c.meaning.ensures.value c.in_default.ensures in
-    let p = err_from_is_err_and c.from-residual.result c.from-residual.ensures.1 in
+    let p = err_from_is_err_and c.from_residual.result c.from_residual.ensures.1 in
     let x = c.in_err-low.field-0.0 in
-    let q : c.from-residual.result ≡ Err x = p.1 ∙ ap Err p.2 in
+    let q : c.from_residual.result ≡ Err x = p.1 ∙ ap Err p.2 in
     let xs = diamonds_in c.join.new.self.state.diamonds in
     record {
       joined = subst (λ (r : Result Edge Refusal). Joined s.profile.meaning (diamonds_in s.diamonds) (joint_of (diamonds_in s.diamonds) c.args.key) r xs) (sym q)
           (break_low s.profile.meaning (diamonds_in s.diamonds) (state_well s) c.args.key c.args.n c.requires i c.half_key-low_key.result c.half_key-high_key.result c.half_key-low_key.ensures.key c.half_key-high_key.ensures.key c.half_key-low_key.ensures.half c.half_key-high_key.ensures.half x xs (low_joined s.profile.meaning (diamonds_in s.diamonds) (state_well s) c.args.key c.args.n c.requires i c.half_key-low_key.result c.half_key-high_key.result c.half_key-low_key.ensures.key c.half_key-high_key.ensures.key c.half_key-low_key.ensures.half c.half_key-high_key.ensures.half c.plain-low_mark.result.0 c.plain-low_mark.result.1 c.plain-low_mark.ensures.mark c.plain-low_mark.ensures.rule c.plain-high_mark.result.0 c.plain-high_mark.result.1 c.plain-high_mark.ensures.key c.plain-high_mark.ensures.mark c.plain-high_mark.ensures.rule (Err x) xs c.in_err-low.ensures.joined));
-      right = refused_made (λ e. right_for c.join.new.self.state.profile.meaning xs c.args.key e ≡ true) c.from-residual.result x q;
+      right = refused_made (λ e. right_for c.join.new.self.state.profile.meaning xs c.args.key e ≡ true) c.from_residual.result x q;
       profile = c.in_err-low.ensures.profile;
       long = c.in_err-low.ensures.long;
     }
 
-pub overflow-sub-n-2 : goal.overflow-sub-n-2
-overflow-sub-n-2 g t c =
+pub overflow_sub-n-2 : goal.overflow_sub-n-2
+overflow_sub-n-2 g t c =
     omega (arith, unsettled_some c.args.self.now.state c.args.key c.args.n c.requires c.meaning.result c.meaning.ensures.value c.in_default.ensures)
 
-pub overflow-sub-n-3 : goal.overflow-sub-n-3
-overflow-sub-n-3 g t c =
+pub overflow_sub-n-3 : goal.overflow_sub-n-3
+overflow_sub-n-3 g t c =
     omega (arith, unsettled_some c.args.self.now.state c.args.key c.args.n c.requires c.meaning.result c.meaning.ensures.value c.in_default.ensures)
 
-pub overflow-sub-n-4 : goal.overflow-sub-n-4
-overflow-sub-n-4 g t c =
+pub overflow_sub-n-4 : goal.overflow_sub-n-4
+overflow_sub-n-4 g t c =
     omega (arith, unsettled_some c.args.self.now.state c.args.key c.args.n c.requires c.meaning.result c.meaning.ensures.value c.in_default.ensures)
 
 pub join-requires-2 : goal.join-requires-2
@@ -94,15 +94,15 @@ pub returns-in_err-high : goal.returns-in_err-high
 returns-in_err-high g t c =
     let s = c.args.self.now.state in
     let i = unsettled_some s c.args.key c.args.n c.requires c.meaning.result c.meaning.ensures.value c.in_default.ensures in
-    let p = err_from_is_err_and c.from-residual-in_err-high.result c.from-residual-in_err-high.ensures.1 in
+    let p = err_from_is_err_and c.from_residual-in_err-high.result c.from_residual-in_err-high.ensures.1 in
     let x = c.in_err-high.field-0.0 in
-    let q : c.from-residual-in_err-high.result ≡ Err x = p.1 ∙ ap Err p.2 in
+    let q : c.from_residual-in_err-high.result ≡ Err x = p.1 ∙ ap Err p.2 in
     let es = diamonds_in c.join.new.self.state.diamonds in
     let xs = diamonds_in c.join-2.new.self.state.diamonds in
     let m = subst (λ (p : Profile). Joined p.meaning es (joint_of es c.plain-high_mark.result.0) (Err x) xs) c.in_ok-low.ensures.profile c.in_err-high.ensures.joined in
     record {
       joined = subst (λ (r : Result Edge Refusal). Joined s.profile.meaning (diamonds_in s.diamonds) (joint_of (diamonds_in s.diamonds) c.args.key) r xs) (sym q) (plain_break_high s.profile.meaning (diamonds_in s.diamonds) (state_well s) c.args.key c.args.n c.requires i c.half_key-low_key.result c.half_key-high_key.result c.half_key-low_key.ensures.key c.half_key-high_key.ensures.key c.half_key-low_key.ensures.half c.half_key-high_key.ensures.half c.plain-low_mark.result.0 c.plain-low_mark.result.1 c.plain-low_mark.ensures.mark c.plain-low_mark.ensures.rule c.plain-high_mark.result.0 c.plain-high_mark.result.1 c.plain-high_mark.ensures.key c.plain-high_mark.ensures.mark c.plain-high_mark.ensures.rule c.in_ok-low.low es c.in_ok-low.ensures.joined x xs m);
-      right = refused_made (λ e. right_for c.join-2.new.self.state.profile.meaning xs c.args.key e ≡ true) c.from-residual-in_err-high.result x q;
+      right = refused_made (λ e. right_for c.join-2.new.self.state.profile.meaning xs c.args.key e ≡ true) c.from_residual-in_err-high.result x q;
       profile = c.in_err-high.ensures.profile ∙ c.in_ok-low.ensures.profile;
       long = c.in_err-high.ensures.long ∙ c.in_ok-low.ensures.long;
     }
@@ -130,11 +130,11 @@ returns-in_err-edge g t c =
     let o₁ = subst (λ (p : Profile). ◌≡◌ {A = Outcome} (Err c.in_err-edge.field-0.0, ys) (kept xs (make p.meaning (store_of xs) (edge_of c.turned.result) (edge_of c.turned-2.result)))) same c.in_err-edge.ensures.outcome in
     let o = o₁ ∙ ap₂ (λ (a b : Edge). kept xs (make s.profile.meaning (store_of xs) (edge_of a) (edge_of b))) c.turned.ensures c.turned-2.ensures in
     let j = plain_both s.profile.meaning (diamonds_in s.diamonds) (state_well s) c.args.key c.args.n c.requires i c.half_key-low_key.result c.half_key-high_key.result c.half_key-low_key.ensures.key c.half_key-high_key.ensures.key c.half_key-low_key.ensures.half c.half_key-high_key.ensures.half c.plain-low_mark.result.0 c.plain-low_mark.result.1 c.plain-low_mark.ensures.mark c.plain-low_mark.ensures.rule c.plain-high_mark.result.0 c.plain-high_mark.result.1 c.plain-high_mark.ensures.key c.plain-high_mark.ensures.mark c.plain-high_mark.ensures.rule c.in_ok-low.low es c.in_ok-low.ensures.joined c.in_ok-high.high xs m (Err c.in_err-edge.field-0.0) ys o in
-    let p = err_from_is_err_and c.from-residual-in_err-edge.result c.from-residual-in_err-edge.ensures.1 in
-    let q : c.from-residual-in_err-edge.result ≡ Err c.in_err-edge.field-0.0 = p.1 ∙ ap Err p.2 in
+    let p = err_from_is_err_and c.from_residual-in_err-edge.result c.from_residual-in_err-edge.ensures.1 in
+    let q : c.from_residual-in_err-edge.result ≡ Err c.in_err-edge.field-0.0 = p.1 ∙ ap Err p.2 in
     record {
       joined = subst (λ (r : Result Edge Refusal). Joined s.profile.meaning (diamonds_in s.diamonds) (joint_of (diamonds_in s.diamonds) c.args.key) r ys) (sym q) j;
-      right = refused_made (λ e. right_for c.make.new.self.profile.meaning ys c.args.key e ≡ true) c.from-residual-in_err-edge.result c.in_err-edge.field-0.0 q;
+      right = refused_made (λ e. right_for c.make.new.self.profile.meaning ys c.args.key e ≡ true) c.from_residual-in_err-edge.result c.in_err-edge.field-0.0 q;
       profile = c.in_err-edge.ensures.profile ∙ same;
       long = ap (λ (t : Table). length (table_places t)) c.in_err-edge.ensures.table ∙ c.in_ok-high.ensures.long ∙ c.in_ok-low.ensures.long;
     }

@@ -40,16 +40,16 @@ returns-in_err-combined g c =
     let x = c.in_err-combined.field-0.0 in
     let one = c.in_err-combined.ensures in
     let fs = diamonds_in c.combine.new.self.state.diamonds in
-    let p = err_from_is_err_and c.from-residual.result c.from-residual.ensures.1 in
-    let q : c.from-residual.result ≡ Err x = p.1 ∙ ap Err p.2 in
+    let p = err_from_is_err_and c.from_residual.result c.from_residual.ensures.1 in
+    let q : c.from_residual.result ≡ Err x = p.1 ∙ ap Err p.2 in
     let n = not_first_step D ds (state_well s.state) e in
     let f = answered_err (given (g.C.Cache.held s.cache s.state.table (key 3 e e))) (combine_step D ds 3 e e).0 x one.answer in
-    let answer : c.from-residual.result ≡ (negate_step D ds e).0 = q ∙ sym f ∙ ap (λ (z : Outcome). z.0) n in
+    let answer : c.from_residual.result ≡ (negate_step D ds e).0 = q ∙ sym f ∙ ap (λ (z : Outcome). z.0) n in
     let diamonds : fs ≡ (negate_step D ds e).1 = one.diamonds ∙ ap (λ (z : Outcome). z.1) n in
     record {
       answer = answer;
       diamonds = diamonds;
-      right = negated_made D ds (state_well s.state) e c.from-residual.result fs answer diamonds;
+      right = negated_made D ds (state_well s.state) e c.from_residual.result fs answer diamonds;
       marked = λ h. let t : false ≡ true = c.if-negates.ensures ∙ h in let z : ◌≡◌ {A = ℕ} 0 1 = cc in absurd (omega arith);
       profile = one.profile;
       long = one.long;

@@ -11,7 +11,13 @@ invariant_of-state g c =
     let l : length (table_places c.forget.new.table) ≡ length (table_places t) = ap length c.forget.ensures.empty ∙ length-replicate (length (table_places t)) None in
     let m : length (table_places t) ≡ g.C.Cache.wants c.args.cache = ap length c.in_ok-table.ensures ∙ length-replicate (g.C.Cache.wants c.args.cache) None in
     let w = g.met.C.Cache.roomy c.args.cache in
-    (search rules, (search rules, (search rules, (omega arith, ((λ k e h. absurd (nothing_stands (length (table_places t)) k e (subst (λ (ps : List (Option Entry)). Stands ps k e) c.forget.ensures.empty h))), tt)))))
+    record {
+      spelled = search rules;
+      proper = search rules;
+      low = search rules;
+      wide = omega arith;
+      right = λ k e h. absurd (nothing_stands (length (table_places t)) k e (subst (λ (ps : List (Option Entry)). Stands ps k e) c.forget.ensures.empty h));
+    }
 
 pub returns : goal.returns
 returns g c =

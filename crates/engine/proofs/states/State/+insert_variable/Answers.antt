@@ -49,8 +49,8 @@ returns-in_err-edge t c =
     let D = s.profile.meaning in
     let ds = diamonds_in s.diamonds in
     let xs = diamonds_in c.insert_variable.new.self.diamonds in
-    let p = err_from_is_err_and c.from-residual.result c.from-residual.ensures.1 in
-    let q : c.from-residual.result ≡ Err c.in_err-edge.field-0.0 = p.1 ∙ ap Err p.2 in
+    let p = err_from_is_err_and c.from_residual.result c.from_residual.ensures.1 in
+    let q : c.from_residual.result ≡ Err c.in_err-edge.field-0.0 = p.1 ∙ ap Err p.2 in
     record {
       outcome =
           ap (λ (r : Result Edge Refusal). (r, xs)) q

@@ -62,8 +62,8 @@ half-high-requires t c =
     let m = some_marks s c.args.edge c.args.n c.requires (sym c.in-Mixed.ensures) in
     record { edge = subst (λ (x : Edge). EdgeOfArity s.profile.meaning (held s) x c.args.n) (sym c.unmarked-upright.ensures) m.2; some = m.0 }
 
-pub overflow-sub-n : goal.overflow-sub-n
-overflow-sub-n t c = (some_marks c.args.self.now c.args.edge c.args.n c.requires (sym c.in-Mixed.ensures)).0
+pub overflow_sub-n : goal.overflow_sub-n
+overflow_sub-n t c = (some_marks c.args.self.now c.args.edge c.args.n c.requires (sym c.in-Mixed.ensures)).0
 
 pub assignments-requires-then-same : goal.assignments-requires-then-same
 assignments-requires-then-same t c =
@@ -79,8 +79,8 @@ returns-then-same t c =
     (half_of s true c.args.edge c.unmarked-upright.result c.half-high.result c.half-high.ensures.half c.unmarked-upright.ensures)
     c.half-low.ensures.edge (ap (same_record c.half-low.result) (sym c.flip.ensures) ∙ sym c.if-same.ensures)
 
-pub overflow-sub-n-2 : goal.overflow-sub-n-2
-overflow-sub-n-2 t c = (some_marks c.args.self.now c.args.edge c.args.n c.requires (sym c.in-Mixed.ensures)).0
+pub overflow_sub-n-2 : goal.overflow_sub-n-2
+overflow_sub-n-2 t c = (some_marks c.args.self.now c.args.edge c.args.n c.requires (sym c.in-Mixed.ensures)).0
 
 pub ones-of_low-requires : goal.ones-of_low-requires
 ones-of_low-requires t c =
@@ -88,8 +88,8 @@ ones-of_low-requires t c =
     let m = c.decreases in
     (omega arith, c.half-low.ensures.edge)
 
-pub overflow-sub-n-else-same-2 : goal.overflow-sub-n-else-same-2
-overflow-sub-n-else-same-2 t c = (some_marks c.args.self.now c.args.edge c.args.n c.requires (sym c.in-Mixed.ensures)).0
+pub overflow_sub-n-else-same-2 : goal.overflow_sub-n-else-same-2
+overflow_sub-n-else-same-2 t c = (some_marks c.args.self.now c.args.edge c.args.n c.requires (sym c.in-Mixed.ensures)).0
 
 pub ones-of_high-requires : goal.ones-of_high-requires
 ones-of_high-requires t c =

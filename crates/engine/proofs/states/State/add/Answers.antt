@@ -1,4 +1,5 @@
-use Rattle.std.proofs.Common.{◌≡◌, true, List, length, Ok, sym, refl, ap, ◌∙◌, subst, arith, rules}
+use Rattle.std.proofs.Common.{◌≡◌, ◌≤◌, ◌∙◌, true, List, length, Ok, sym, refl, ap, ◌∙◌, subst, arith, rules}
+use Rattle.std.proofs.lemmas.Bool.{leb-true}
 use Rattle.diagram.specs.declared.edges.Edge.{Edge}
 use Rattle.diagram.specs.declared.edges.Diamond.{Diamond}
 use Rattle.diagram.specs.Records.{store_of}
@@ -7,7 +8,7 @@ use Rattle.unique.specs.Shelf.{diamonds_in}
 use Rattle.unique.proofs.Few.{few_in}
 use Rattle.engine.specs.Steps.{right_for}
 use Rattle.engine.specs.Laws.{HeldWell}
-use Rattle.engine.proofs.Joining.{add_found, number_less}
+use Rattle.engine.proofs.Joining.{add_found, add_full, number_less}
 use Rattle.engine.proofs.Lawlike.{state_well}
 use Rattle.engine.proofs.Pushed.{pushed_well, pushed_full, pushed_new}
 use Rattle.engine.proofs.states.State.add.Goals as goal
@@ -36,7 +37,20 @@ invariant_of-self c =
     let is = sym c.push.ensures.diamonds in
     let p = pushed_well D ds (state_well s) c.args.diamond c.requires (sym c.in_default.ensures) in
     let w = subst (HeldWell D) is p.0 in
-    (w.normal.1, (w.normal.0, (shallow_met (store_of xs) w.shallow, (s.wide, (λ k e h. subst (λ (ys : List Diamond). right_for D ys k e ≡ true) is (p.1 k e (s.right k e h)), tt)))))
+    record {
+      spelled = w.normal.1;
+      proper = w.normal.0;
+      low = shallow_met (store_of xs) w.shallow;
+      wide = s.wide;
+      right = λ k e h. subst (λ (ys : List Diamond). right_for D ys k e ≡ true) is (p.1 k e (s.right k e h));
+    }
+
+pub returns-then-is_full-clause-outcome : goal.returns-then-is_full-clause-outcome
+returns-then-is_full-clause-outcome c =
+    let s = c.args.self.now in
+    let ds = diamonds_in s.diamonds in
+    let full : 1024 ≤ length ds = omega (arith, leb-true 1024 c.len.result (sym c.is_full.ensures ∙ c.if-is_full.true), c.len.ensures) in
+    sym (add_full s.profile.meaning ds c.args.diamond s.spelled c.requires full (sym c.in_default.ensures))
 
 pub returns-in-None : goal.returns-in-None
 returns-in-None c =

@@ -5,8 +5,8 @@ use Rattle.unique.specs.Shelf.{diamonds_in}
 use Rattle.engine.proofs.Halved.{marks_most}
 use Rattle.engine.proofs.states.State.arity.Goals as goal
 
-pub overflow-cast-result : goal.overflow-cast-result
-overflow-cast-result c =
+pub overflow_cast-result : goal.overflow_cast-result
+overflow_cast-result c =
     let s = c.args.self.now in
     let l = marks_most s.profile.meaning (diamonds_in s.diamonds) c.as_slice.result.now c.args.edge c.arity.result (sym c.as_slice.ensures) (sym c.requires) c.arity.ensures in
     omega arith

@@ -12,4 +12,10 @@ pub invariant_of-self : goal.invariant_of-self
 invariant_of-self c =
     let s = c.args.self.now in
     let w = subst (HeldWell s.profile.meaning) (sym c.cut.ensures) c.requires.well in
-    (w.normal.1, (w.normal.0, (shallow_met (store_of (diamonds_in c.cut.new.self)) w.shallow, (s.wide, ((λ k e h. absurd (nothing_stands (length (table_places s.table)) k e (subst (λ (ps : List (Option Entry)). Stands ps k e) c.requires.empty h))), tt)))))
+    record {
+      spelled = w.normal.1;
+      proper = w.normal.0;
+      low = shallow_met (store_of (diamonds_in c.cut.new.self)) w.shallow;
+      wide = s.wide;
+      right = λ k e h. absurd (nothing_stands (length (table_places s.table)) k e (subst (λ (ps : List (Option Entry)). Stands ps k e) c.requires.empty h));
+    }

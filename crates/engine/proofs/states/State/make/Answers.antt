@@ -59,8 +59,8 @@ returns-in_err-edge c =
     let e : letter_for D c.args.low c.args.high ≡ None =
     ap (λ (m : Meaning). letter_for m c.args.low c.args.high) (sym c.meaning.ensures.value) ∙ sym c.in_default.ensures in
     let o = c.in_err-edge.ensures.outcome ∙ ap₂ (λ (l h : Edge). kept ds (add (store_of ds) (edge_of l) (edge_of h))) c.flip.ensures c.flip-then-low.ensures in
-    let p = err_from_is_err_and c.from-residual.result c.from-residual.ensures.1 in
-    let q : c.from-residual.result ≡ Err c.in_err-edge.field-0.0 = p.1 ∙ ap Err p.2 in
+    let p = err_from_is_err_and c.from_residual.result c.from_residual.ensures.1 in
+    let q : c.from_residual.result ≡ Err c.in_err-edge.field-0.0 = p.1 ∙ ap Err p.2 in
     record {
       outcome =
           ap (λ (r : Result Edge Refusal). (r, diamonds_in c.add.new.self.diamonds)) q
