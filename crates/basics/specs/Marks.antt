@@ -1,5 +1,5 @@
 -- Marks on the diamonds that were reached.
-use Rattle.std.specs.Prelude.{ℕ, Bool, true, false, cond, List, length, set, nat_lt, slice_index_or, slice_set}
+use Rattle.std.specs.Prelude.{ℕ, Bool, true, false, cond, List, length, nat_lt, slice_index_or, slice_set}
 use Rattle.diagram.specs.Edges.{Target, terminal, diamond}
 
 -- among the marks ms, one for each number of a diamond, that of the target is set; a terminal has none, nor has a number past the last

@@ -1,4 +1,6 @@
 // The parts of an engine's calls that need no engine.
+#![tactic(auto)]
+
 pub mod arguments;
 pub mod marks;
 pub mod plain;

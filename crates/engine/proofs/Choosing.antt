@@ -1,5 +1,5 @@
 -- Edges made from two halves that are accepted: by a letter, or by a diamond.
-use Rattle.std.proofs.Common.{◌≡◌, ℕ, suc, ◌+◌, ◌<◌, ◌≤◌, Bool, true, false, cond, not, leb, List, [], ◌∷◌, ◌++◌, length, Some, None, Ok, Err, Option, Result, sym, refl, ap, ◌∙◌, subst, ap₂, arith}
+use Rattle.std.proofs.Common.{◌≡◌, ℕ, ◌<◌, ◌≤◌, Bool, true, false, cond, not, leb, List, length, Some, None, Ok, Err, Option, Result, sym, refl, ap, ◌∙◌, arith}
 use Rattle.diagram.specs.declared.letters.Letter.{Letter}
 use Rattle.diagram.specs.declared.letters.Letter.TheVariants.{U, X, C00, C01, C10, C11}
 use Rattle.diagram.specs.declared.edges.Edge.{Edge as EdgeRecord}
@@ -8,16 +8,15 @@ use Rattle.diagram.specs.declared.meanings.Meaning.{Meaning}
 use Rattle.diagram.specs.declared.refusals.Refusal.{Refusal}
 use Rattle.diagram.specs.declared.refusals.Refusal.TheVariants.{Full}
 use Rattle.diagram.specs.Rules.{arity}
-use Rattle.diagram.specs.Edges.{Edge, Store, flip, put, foot, diamond_rule, rule_of}
+use Rattle.diagram.specs.Edges.{Edge, flip, put, diamond_rule, rule_of}
 use Rattle.diagram.specs.Dialects.{Lawful}
 use Rattle.diagram.specs.Making.{Made, source, written, choose, add, flipped, make_by, make}
-use Rattle.diagram.specs.Acceptance.{Accepted, Acceptable}
-use Rattle.diagram.specs.Records.{target_of, edge_of, store_of, edge_record, spelled_edge, spelled_diamonds, accepted_in, other_mark, letter_for, with_letter, diamonds_of}
+use Rattle.diagram.specs.Records.{edge_of, store_of, edge_record, spelled_edge, spelled_diamonds, other_mark, letter_for, with_letter, diamonds_of}
 use Rattle.diagram.proofs.Laws.{arity_negate, sense_flip}
 use Rattle.diagram.proofs.Signs.{flip?, choose_flip}
 use Rattle.diagram.proofs.Split.{accepted_flip}
 use Rattle.diagram.proofs.Placed.{arity_record}
-use Rattle.diagram.proofs.Recorded.{letter, letter_alike, choose_letter}
+use Rattle.diagram.proofs.Recorded.{letter_alike, choose_letter}
 use Rattle.diagram.proofs.Recording.{spelled_in, acceptable_in}
 use Rattle.diagram.proofs.Made.{with_letter_there}
 use Rattle.engine.specs.Steps.{Outcome, kept}

@@ -1,18 +1,18 @@
 -- What constant, equal and opposite edges settle is right.
-use Rattle.std.proofs.Common.{◌≡◌, ℕ, zero, suc, ◌<◌, ◌≤◌, Bool, true, false, cond, not, ◌⊎◌, List, [], length, Some, None, Option, sym, refl, ap, ◌∙◌, subst, ap₂, inl, inr, arith}
+use Rattle.std.proofs.Common.{◌≡◌, ℕ, zero, suc, ◌<◌, Bool, true, false, cond, ◌⊎◌, List, [], Some, None, Option, sym, refl, ap, ◌∙◌, subst, ap₂, inl, inr, arith}
 use Rattle.diagram.specs.declared.letters.Kind.{Kind}
 use Rattle.diagram.specs.declared.letters.Kind.TheVariants.{AllZero, AllOne, Mixed}
 use Rattle.diagram.specs.declared.edges.Edge.{Edge as EdgeRecord}
 use Rattle.diagram.specs.declared.edges.Diamond.{Diamond as DiamondRecord}
 use Rattle.diagram.specs.declared.meanings.Meaning.{Meaning}
 use Rattle.diagram.specs.Rules.{Rule, constant, ◌⋆◌, arity, Balanced, negate, full, pointwise}
-use Rattle.diagram.specs.Edges.{terminal, Edge, edge, Store, diamond_rule, rule_of, flip}
-use Rattle.diagram.specs.Dialects.{Lawful, is, kind}
+use Rattle.diagram.specs.Edges.{terminal, Edge, edge, Store, diamond_rule, rule_of}
+use Rattle.diagram.specs.Dialects.{is, kind}
 use Rattle.diagram.specs.Making.{flat, low_half}
-use Rattle.diagram.specs.Acceptance.{Accepted, Acceptable}
-use Rattle.diagram.specs.Records.{edge_of, store_of, spelled_edge, accepted_in, arity_in, constant_record, kind_of, other_mark, same_record}
+use Rattle.diagram.specs.Acceptance.{Acceptable}
+use Rattle.diagram.specs.Records.{edge_of, store_of, accepted_in, constant_record, kind_of, other_mark, same_record}
 use Rattle.diagram.specs.RecordTheorems.{rule_in}
-use Rattle.diagram.proofs.Laws.{arity_full, arity_negate, sense_flat, sense_flip, negate_negate}
+use Rattle.diagram.proofs.Laws.{arity_negate, sense_flat, sense_flip, negate_negate}
 use Rattle.diagram.proofs.Split.{Leaf, split, accepted_flip}
 use Rattle.diagram.proofs.Fits.{flat_kind}
 use Rattle.diagram.proofs.Notions.{Halves}
@@ -23,7 +23,7 @@ use Rattle.diagram.proofs.Told.{balanced_rule}
 use Rattle.engine.specs.States.{EdgeOfArity}
 use Rattle.basics.specs.Settled.{fixed_at, by_one, settled_by}
 use Rattle.engine.specs.Laws.{HeldWell}
-use Rattle.engine.proofs.Marks.{constant_in, constant_arity}
+use Rattle.engine.proofs.Marks.{constant_in}
 
 -- A value for each value --
 

@@ -1,5 +1,5 @@
 -- Combining by halves: what is inserted for the low halves, then for the high halves, and made from the two, is what is inserted for the whole.
-use Rattle.std.proofs.Common.{◌≡◌, ℕ, suc, ◌-◌, ◌<◌, ◌≤◌, Bool, true, false, cond, leb, List, [], ◌∷◌, length, take, IfOk, Some, None, Ok, Err, Option, Result, sym, refl, ap, ◌∙◌, subst, ap₂, arith, take_all, take-take}
+use Rattle.std.proofs.Common.{◌≡◌, ℕ, ◌-◌, ◌<◌, ◌≤◌, Bool, true, false, cond, leb, List, length, take, IfOk, Some, None, Ok, Err, Option, Result, sym, ap, ◌∙◌, subst, ap₂, arith, take_all, take-take}
 use Rattle.std.proofs.lemmas.Bool.{lt-leb}
 use Rattle.diagram.specs.declared.edges.Edge.{Edge as EdgeRecord}
 use Rattle.diagram.specs.declared.edges.Diamond.{Diamond as DiamondRecord}
@@ -10,7 +10,7 @@ use Rattle.diagram.specs.Rules.{Rule, constant, ◌⋆◌, arity, Balanced, poin
 use Rattle.diagram.specs.Edges.{Edge, Diamond, pair, Store, flip, rule_of}
 use Rattle.diagram.specs.Making.{Made, find, seat, add, make_by, make, choose, insert, low_half, high_half}
 use Rattle.diagram.specs.Acceptance.{Grown}
-use Rattle.diagram.specs.Records.{edge_of, store_of, edge_record, diamonds_of, accepted_in, arity_in}
+use Rattle.diagram.specs.Records.{edge_of, store_of, edge_record, diamonds_of, accepted_in}
 use Rattle.diagram.specs.RecordTheorems.{rule_in}
 use Rattle.diagram.proofs.Sound.{insert_sound}
 use Rattle.diagram.proofs.Placed.{arity_record}
@@ -22,7 +22,7 @@ use Rattle.unique.specs.Shelf.{diamonds_in}
 use Rattle.engine.specs.declared.states.State.{State}
 use Rattle.engine.specs.Steps.{Outcome, kept, inserted, joint, combine_step, right_for}
 use Rattle.basics.specs.Settled.{settled}
-use Rattle.engine.specs.States.{EdgeOfArity, KeyOfArity, Joined, HalfKey, HalvesFit, half_at}
+use Rattle.engine.specs.States.{KeyOfArity, Joined, HalfKey, HalvesFit}
 use Rattle.engine.specs.Laws.{HeldWell}
 use Rattle.engine.proofs.Lawlike.{kept_parts, inserted_right, inserted_refused, state_well}
 use Rattle.engine.proofs.Halved.{halves}

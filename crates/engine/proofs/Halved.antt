@@ -1,5 +1,5 @@
 -- The halves of accepted edges of some mark.
-use Rattle.std.proofs.Common.{◌≡◌, ℕ, zero, suc, ◌+◌, ◌-◌, ◌/◌, ◌%◌, ◌<◌, ◌≤◌, Bool, true, false, cond, not, ◌&&◌, eqb, List, [], ◌∷◌, map, length, get_or, None, sym, refl, ap, ◌∙◌, subst, ap₂, arith}
+use Rattle.std.proofs.Common.{◌≡◌, ℕ, zero, suc, ◌-◌, ◌/◌, ◌%◌, ◌<◌, ◌≤◌, Bool, true, false, cond, ◌&&◌, eqb, List, [], ◌∷◌, map, length, get_or, None, sym, refl, ap, ◌∙◌, subst, ap₂, arith}
 use lib.ListN.{length-map}
 use Rattle.std.proofs.lemmas.List.{get_or-map}
 use Rattle.std.proofs.lemmas.Bool.{and_parts, eqb-true, eqb-false, eq-eqb, ne_eqb}
@@ -9,12 +9,12 @@ use Rattle.diagram.specs.declared.edges.Diamond.{Diamond as DiamondRecord}
 use Rattle.diagram.specs.declared.edges.Target.{Target as TargetRecord}
 use Rattle.diagram.specs.declared.edges.Target.TheVariants.{Zero, One, Diamond as DiamondNumber}
 use Rattle.diagram.specs.declared.meanings.Meaning.{Meaning}
-use Rattle.diagram.specs.Rules.{Rule, ◌⋆◌, arity, Balanced, value}
+use Rattle.diagram.specs.Rules.{Rule, arity, Balanced, value}
 use Rattle.diagram.specs.Words.{letters_of, spells, peeled}
-use Rattle.diagram.specs.Edges.{Edge, edge, Diamond, Store, foot, sign, spell, diamond_rule, rule_of, diamond_at, flip}
+use Rattle.diagram.specs.Edges.{Edge, Diamond, Store, foot, sign, spell, diamond_rule, rule_of, diamond_at, flip}
 use Rattle.diagram.specs.Dialects.{Lawful}
-use Rattle.diagram.specs.Making.{flat, upright, low_of, high_of, low_upright, high_upright, flip_if, low_half, high_half}
-use Rattle.diagram.specs.Acceptance.{Within, Accepted, Acceptable, Normal, normal}
+use Rattle.diagram.specs.Making.{flat, low_of, high_of, low_upright, high_upright, flip_if, low_half, high_half}
+use Rattle.diagram.specs.Acceptance.{Within, Accepted, Acceptable, normal}
 use Rattle.diagram.specs.Records.{target_of, edge_of, diamond_of, store_of, arity_in, spelled_edge, spelled_diamonds, accepted_in, halves_on, other_mark}
 use Rattle.diagram.proofs.Bridge.{arity_edge, nth}
 use Rattle.diagram.proofs.Notions.{Halves}

@@ -1,21 +1,18 @@
 -- Diamonds kept and joined: what an engine's diamonds are after one of them was looked up or added.
-use Rattle.std.proofs.Common.{◌≡◌, ℕ, suc, ◌+◌, ◌<◌, ◌≤◌, Bool, true, false, cond, ◌&&◌, eqb, leb, ◌↔◌, List, [], ◌∷◌, ◌++◌, reverse, length, Some, None, Ok, Err, Option, Result, sym, refl, ap, ◌∙◌, subst, ap₂, arith}
+use Rattle.std.proofs.Common.{◌≡◌, ℕ, suc, ◌<◌, ◌≤◌, Bool, true, false, cond, List, [], ◌∷◌, ◌++◌, reverse, length, Some, None, Ok, Err, Option, sym, ap, ◌∙◌, subst, ap₂, arith}
 use lib.ListN.{length-reverse}
-use Rattle.std.proofs.lemmas.Bool.{le-leb, lt-leb, and_parts}
-use Rattle.diagram.specs.declared.edges.Edge.{Edge as EdgeRecord}
+use Rattle.std.proofs.lemmas.Bool.{le-leb, lt-leb}
 use Rattle.diagram.specs.declared.edges.Diamond.{Diamond as DiamondRecord}
 use Rattle.diagram.specs.declared.meanings.Meaning.{Meaning}
-use Rattle.diagram.specs.declared.refusals.Refusal.{Refusal}
 use Rattle.diagram.specs.declared.refusals.Refusal.TheVariants.{Full}
-use Rattle.diagram.specs.Rules.{arity}
-use Rattle.diagram.specs.Edges.{Edge, Diamond, pair, Store, rule_of}
-use Rattle.diagram.specs.Making.{find, seat, add, diamond_edge, choose}
-use Rattle.diagram.specs.Acceptance.{Normal, normal, Addable, Shallow, shallow}
+use Rattle.diagram.specs.Edges.{Edge, Diamond, Store}
+use Rattle.diagram.specs.Making.{find, seat, add, diamond_edge}
+use Rattle.diagram.specs.Acceptance.{normal, Addable, shallow}
 use Rattle.diagram.specs.Records.{edge_of, diamond_of, store_of, edge_record, diamond_record, diamonds_of, spelled_edge, spelled_diamonds, same_diamond_record, number_behind, number_of}
 use Rattle.diagram.proofs.Recorded.{edge_back, store_push, store_length, diamonds_push, diamonds_back, spelled_push}
 use Rattle.diagram.proofs.Decides.{normal_right}
 use Rattle.diagram.proofs.Made.{number_alike, shallow_read, shallow_met}
-use Rattle.engine.specs.Steps.{Outcome, kept}
+use Rattle.engine.specs.Steps.{kept}
 use Rattle.engine.specs.States.{Joins}
 
 never : {A : Type 0} → ◌≡◌ {A = ℕ} 0 1 → A

@@ -1,14 +1,12 @@
 -- The laws of an engine's steps.
-use Rattle.std.proofs.Common.{◌≡◌, ℕ, ◌<◌, ◌≤◌, Bool, true, false, cond, leb, List, reverse, length, Ok, Err, Result, sym, refl, ap, ◌∙◌, subst, ap₂, arith}
+use Rattle.std.proofs.Common.{◌≡◌, ℕ, ◌<◌, ◌≤◌, Bool, true, false, cond, leb, List, reverse, length, Ok, Err, sym, refl, ap, ◌∙◌, subst, arith}
 use lib.ListN.{length-map, length-reverse}
 use Rattle.std.proofs.lemmas.Bool.{leb-true, leb-false}
 use Rattle.diagram.specs.declared.edges.Edge.{Edge}
 use Rattle.diagram.specs.declared.edges.Diamond.{Diamond}
 use Rattle.diagram.specs.declared.meanings.Meaning.{Meaning}
-use Rattle.diagram.specs.declared.refusals.Refusal.{Refusal}
 use Rattle.diagram.specs.declared.refusals.Refusal.TheVariants.{Full}
-use Rattle.diagram.specs.Rules.{Rule, variable}
-use Rattle.diagram.specs.Edges.{Store}
+use Rattle.diagram.specs.Rules.{variable}
 use Rattle.diagram.specs.Making.{Made, insert}
 use Rattle.diagram.specs.Acceptance.{Shallow, normal, shallow}
 use Rattle.diagram.specs.Records.{store_of, edge_record, diamonds_of, diamond_record, spelled_diamonds}
@@ -24,7 +22,7 @@ use Rattle.diagram.proofs.Limits.{insert_shallow}
 use Rattle.diagram.proofs.Recorded.{store_there}
 use Rattle.diagram.proofs.Recording.{answer_accepted}
 use Rattle.engine.specs.declared.states.State.{State}
-use Rattle.engine.specs.Steps.{Outcome, kept, inserted, variable_step}
+use Rattle.engine.specs.Steps.{Outcome, kept, variable_step}
 use Rattle.engine.specs.Laws.{HeldWell, InsertedRight, InsertedRefused, ConstantsInserted}
 use Rattle.engine.proofs.Marks.{inserted_full, variable_answer}
 

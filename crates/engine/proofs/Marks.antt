@@ -1,5 +1,5 @@
 -- Constants and variables inserted.
-use Rattle.std.proofs.Common.{◌≡◌, ℕ, zero, suc, ◌+◌, ◌-◌, ◌<◌, ◌≤◌, Bool, true, false, cond, ltb, leb, List, length, Some, Ok, Err, Result, sym, refl, ap, ◌∙◌, subst, ap₂, arith}
+use Rattle.std.proofs.Common.{◌≡◌, ℕ, zero, suc, ◌-◌, ◌<◌, ◌≤◌, Bool, true, false, cond, ltb, leb, List, length, Some, Ok, Err, sym, refl, ap, ◌∙◌, subst, ap₂, arith}
 use Rattle.std.proofs.lemmas.Bool.{le-leb, lt-ltb, leb-true, ltb-true}
 use Rattle.diagram.specs.declared.letters.Letter.TheVariants.{U}
 use Rattle.diagram.specs.declared.edges.Edge.{Edge as EdgeRecord}
@@ -7,8 +7,8 @@ use Rattle.diagram.specs.declared.edges.Diamond.{Diamond as DiamondRecord}
 use Rattle.diagram.specs.declared.meanings.Meaning.{Meaning}
 use Rattle.diagram.specs.declared.refusals.Refusal.{Refusal}
 use Rattle.diagram.specs.declared.refusals.Refusal.TheVariants.{Full}
-use Rattle.diagram.specs.Rules.{Rule, ◌⋆◌, arity, Balanced, full, variable}
-use Rattle.diagram.specs.Edges.{Edge, Store, put, diamond_rule, rule_of, foot}
+use Rattle.diagram.specs.Rules.{◌⋆◌, arity, full, variable}
+use Rattle.diagram.specs.Edges.{Edge, Store, put, diamond_rule, rule_of}
 use Rattle.diagram.specs.Dialects.{Lawful}
 use Rattle.diagram.specs.Making.{Made, flat, make, insert}
 use Rattle.diagram.specs.Acceptance.{Accepted, Acceptable, Normal, normal}

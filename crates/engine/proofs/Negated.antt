@@ -1,14 +1,14 @@
 -- Where the dialect negates, a negated rule is inserted as the rule is, with the other mark.
-use Rattle.std.proofs.Common.{◌≡◌, Bool, true, false, cond, not, List, [], length, take, IfOk, Some, None, Ok, Err, Option, Result, sym, refl, ap, ◌∙◌, subst, ap₂}
+use Rattle.std.proofs.Common.{◌≡◌, Bool, true, false, cond, not, List, IfOk, Some, None, Ok, Err, Option, Result, sym, refl, ap, ◌∙◌, ap₂}
 use Rattle.diagram.specs.declared.edges.Edge.{Edge as EdgeRecord}
 use Rattle.diagram.specs.declared.edges.Diamond.{Diamond as DiamondRecord}
 use Rattle.diagram.specs.declared.meanings.Meaning.{Meaning}
 use Rattle.diagram.specs.declared.refusals.Refusal.{Refusal}
 use Rattle.diagram.specs.Rules.{Rule, constant, ◌⋆◌, negate}
-use Rattle.diagram.specs.Edges.{terminal, Edge, edge, Store, flip}
+use Rattle.diagram.specs.Edges.{Edge, Store, flip}
 use Rattle.diagram.specs.Dialects.{Lawful}
-use Rattle.diagram.specs.Making.{Made, flat, choose, add, flipped, make_by, make, insert}
-use Rattle.diagram.specs.Records.{store_of, other_mark}
+use Rattle.diagram.specs.Making.{Made, choose, add, flipped, make_by, make, insert}
+use Rattle.diagram.specs.Records.{store_of}
 use Rattle.diagram.proofs.Laws.{flip_flip}
 use Rattle.diagram.proofs.Signs.{flip?, choose_flip}
 use Rattle.diagram.proofs.Split.{flat_negating}

@@ -1,10 +1,10 @@
 -- A combination is that of the unmarked edges, or its negation.
-use Rattle.std.proofs.Common.{◌≡◌, ℕ, ◌-◌, ◌<◌, ◌≤◌, Bool, true, false, cond, not, List, Ok, Err, Result, sym, refl, ap, ◌∙◌, subst, ap₂, arith}
+use Rattle.std.proofs.Common.{◌≡◌, ℕ, ◌-◌, ◌<◌, ◌≤◌, Bool, true, false, List, Ok, Err, Result, sym, refl, ap, ◌∙◌, subst, ap₂, arith}
 use Rattle.diagram.specs.declared.edges.Edge.{Edge}
 use Rattle.diagram.specs.declared.edges.Diamond.{Diamond}
 use Rattle.diagram.specs.declared.meanings.Meaning.{Meaning}
 use Rattle.diagram.specs.declared.refusals.Refusal.{Refusal}
-use Rattle.diagram.specs.Rules.{Rule, constant, ◌⋆◌, arity, Balanced, negate, pointwise, connective}
+use Rattle.diagram.specs.Rules.{Rule, constant, ◌⋆◌, arity, Balanced, pointwise, connective}
 use Rattle.diagram.specs.Edges.{sign}
 use Rattle.diagram.specs.Dialects.{flips}
 use Rattle.diagram.specs.Records.{edge_of, store_of}
@@ -19,7 +19,6 @@ use Rattle.diagram.specs.Acceptance.{Grown}
 use Rattle.engine.specs.Steps.{Outcome, kept}
 use Rattle.engine.specs.States.{KeyOfArity, HalfKey, HalvesFit, Joined}
 use Rattle.engine.specs.Laws.{HeldWell}
-use Rattle.engine.proofs.Choosing.{marked}
 use Rattle.engine.proofs.Halfwise.{joint_of, key_lasts, low_well, low_grown, break_high, halves_fit, joined_both}
 use Rattle.engine.proofs.Negated.{joined_negated}
 use Rattle.engine.proofs.Tallied.{unmarked_fit}

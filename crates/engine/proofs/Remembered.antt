@@ -1,5 +1,5 @@
 -- Combinations whose result stands: what they say, and that they last while diamonds are added.
-use Rattle.std.proofs.Common.{◌≡◌, ℕ, zero, suc, ◌≤◌, Bool, true, false, cond, ◌&&◌, eqb, leb, List, [], ◌∷◌, ◌++◌, length, get_or, replicate, Some, None, Ok, Err, Option, Result, sym, refl, ap, ◌∙◌, subst, ap₂, ⊎_elim, arith}
+use Rattle.std.proofs.Common.{◌≡◌, ℕ, zero, suc, ◌≤◌, Bool, true, false, cond, ◌&&◌, eqb, leb, List, [], ◌∷◌, ◌++◌, get_or, replicate, Some, None, Ok, Err, Option, sym, refl, ap, ◌∙◌, subst, ap₂, ⊎_elim, arith}
 use Rattle.std.proofs.lemmas.Bool.{leb-true, le-leb, eqb-true, eq-eqb, and_parts, and_from}
 use Rattle.diagram.specs.declared.edges.Edge.{Edge}
 use Rattle.diagram.specs.declared.edges.Diamond.{Diamond}
@@ -7,10 +7,8 @@ use Rattle.diagram.specs.declared.meanings.Meaning.{Meaning}
 use Rattle.diagram.specs.declared.refusals.Refusal.{Refusal}
 use Rattle.diagram.specs.declared.refusals.Refusal.TheVariants.{NotAccepted, AritiesDiffer, NoConnective}
 use Rattle.diagram.specs.Rules.{Rule, constant, ◌⋆◌, arity, Balanced, pointwise, connective}
-use Rattle.diagram.specs.Edges.{Store}
-use Rattle.diagram.specs.Making.{Made, insert}
 use Rattle.diagram.specs.Acceptance.{Grown}
-use Rattle.diagram.specs.Records.{edge_of, store_of, edge_record, diamonds_of, diamond_of, arity_in, accepted_in}
+use Rattle.diagram.specs.Records.{edge_of, store_of, diamond_of, arity_in, accepted_in}
 use Rattle.diagram.specs.RecordTheorems.{rule_in, Answered}
 use Rattle.diagram.proofs.Laws.{beq_eq}
 use Rattle.diagram.proofs.Main.{main}

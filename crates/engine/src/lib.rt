@@ -1,4 +1,6 @@
 // The engine: diamonds of one dialect, with a computed cache.
+#![tactic(auto)]
+
 pub mod calls;
 mod checking;
 pub mod combined;

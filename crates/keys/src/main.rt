@@ -1,4 +1,6 @@
 // Prints, for each built-in dialect, the edges of some constants and variables.
+#![tactic(auto)]
+
 use cache::blank::Blank;
 use dialect::builtin::{Dialect1, Dialect2, Dialect3, Dialect4, Dialect5};
 use dialect::profiles::Profile;

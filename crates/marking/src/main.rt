@@ -1,4 +1,6 @@
 // Marks the engine's answers against keys that are known beforehand, with each of the two caches, and prints for each whether it agrees.
+#![tactic(auto)]
+
 use cache::blank::Blank;
 use cache::caches::Cache;
 use cache::slot::Slot;

@@ -1,4 +1,6 @@
 // Builds rules of 20 marks from their marks, and prints how many diamonds they take.
+#![tactic(auto)]
+
 use cache::slot::Slot;
 use diagram::edges::Edge;
 use dialect::builtin::{Dialect1, Dialect5};

@@ -1,6 +1,6 @@
 -- A map that is hidden while the cache is shut.
-use Rattle.std.specs.Prelude.{◌≡◌, ℕ, Bool, true, false, cond, ◌||◌, ◌⊎◌, Some, None, Option, refl}
-use Rattle.std.proofs.Common.{inl, inr, arith}
+use Rattle.std.specs.Prelude.{◌≡◌, ℕ, Bool, true, false, cond, ◌||◌, Some, None, Option, refl}
+use Rattle.std.proofs.Common.{inr, arith}
 use Rattle.diagram.specs.declared.edges.Edge.{Edge}
 use Rattle.cache.specs.declared.entries.Key.{Key}
 use Rattle.cache.specs.declared.tables.Table.{Table}

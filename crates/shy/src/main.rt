@@ -1,4 +1,6 @@
 // A computed cache that is written outside the library, used by itself and by an engine.
+#![tactic(auto)]
+
 mod shy;
 
 use crate::shy::Shy;

@@ -1,4 +1,6 @@
 // The unique table: the diamonds of an engine, with an index to look them up by.
+#![tactic(auto)]
+
 pub mod buckets;
 pub mod chains;
 pub mod finding;

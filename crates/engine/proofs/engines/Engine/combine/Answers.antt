@@ -1,4 +1,4 @@
-use Rattle.std.proofs.Common.{◌≡◌, ℕ, Bool, true, false, eqb, leb, List, length, take, IfOk, Some, None, Ok, Err, Option, Result, sym, refl, ap, ◌∙◌, subst, ap₂, arith}
+use Rattle.std.proofs.Common.{◌≡◌, ℕ, false, eqb, leb, List, take, IfOk, Some, None, Ok, Err, Option, Result, sym, refl, ap, ◌∙◌, subst, ap₂, arith}
 use Rattle.std.proofs.lemmas.Result.{err_from_is_err_and}
 use Rattle.diagram.specs.declared.edges.Edge.{Edge}
 use Rattle.diagram.specs.declared.edges.Diamond.{Diamond}
@@ -8,16 +8,15 @@ use Rattle.diagram.specs.Refusals.{refusal_number}
 use Rattle.diagram.specs.RecordTheorems.{Answered}
 use Rattle.dialect.specs.declared.profiles.Profile.{Profile}
 use Rattle.cache.specs.declared.entries.Key.{Key}
-use Rattle.unique.specs.declared.tables.UniqueTable.{UniqueTable}
 use Rattle.unique.specs.Shelf.{diamonds_in}
 use Rattle.engine.specs.declared.combined.Combined.{Combined}
-use Rattle.engine.specs.Steps.{Outcome, joint, combine_step, answered, right_for, given}
+use Rattle.engine.specs.Steps.{Outcome, joint, combine_step, answered, given}
 use Rattle.engine.specs.States.{KeyOfArity}
-use Rattle.engine.specs.Laws.{HeldWell, Remembers, MapAfter}
+use Rattle.engine.specs.Laws.{HeldWell, Remembers}
 use Rattle.engine.proofs.Marks.{passed}
 use Rattle.engine.proofs.Lawlike.{state_well}
-use Rattle.engine.proofs.Remembered.{key, right_met, right_read, step_right}
-use Rattle.engine.proofs.Halfwise.{joined_stands, joined_step, refused_step}
+use Rattle.engine.proofs.Remembered.{key, right_read, step_right}
+use Rattle.engine.proofs.Halfwise.{joined_step, refused_step}
 use Rattle.engine.proofs.Mapped.{connective_refused, pair_refused, pair_passed, remembers_state, nothing_given, map_left, map_found, map_noted, map_emptied}
 use Rattle.engine.proofs.engines.Engine.combine.Goals as goal
 

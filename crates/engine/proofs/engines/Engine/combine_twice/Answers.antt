@@ -1,10 +1,10 @@
-use Rattle.std.proofs.Common.{◌≡◌, ℕ, Bool, true, List, Some, Ok, Err, Option, Result, sym, refl, ap, ◌∙◌, subst, ap₂, arith}
+use Rattle.std.proofs.Common.{◌≡◌, ℕ, List, Ok, Err, Result, sym, ap, ◌∙◌, subst, ap₂, arith}
 use Rattle.diagram.specs.declared.edges.Edge.{Edge}
 use Rattle.diagram.specs.declared.edges.Diamond.{Diamond}
 use Rattle.diagram.specs.declared.refusals.Refusal.{Refusal}
 use Rattle.dialect.specs.declared.profiles.Profile.{Profile}
 use Rattle.unique.specs.Shelf.{diamonds_in}
-use Rattle.engine.specs.Steps.{Outcome, combine_step, answered, given}
+use Rattle.engine.specs.Steps.{Outcome, combine_step, given}
 use Rattle.engine.specs.Laws.{MapAfter}
 use Rattle.engine.proofs.Lawlike.{state_well}
 use Rattle.engine.proofs.Remembered.{key}

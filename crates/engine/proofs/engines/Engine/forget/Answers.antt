@@ -1,4 +1,4 @@
-use Rattle.std.proofs.Common.{◌≡◌, ◌<◌, List, length, None, Option, ap, ◌∙◌, subst, arith}
+use Rattle.std.proofs.Common.{◌≡◌, List, length, None, Option, ap, ◌∙◌, subst, arith}
 use lib.ListN.{length-replicate}
 use Rattle.cache.specs.declared.entries.Entry.{Entry}
 use Rattle.cache.specs.Tables.{table_places, Stands}

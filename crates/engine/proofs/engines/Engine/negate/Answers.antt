@@ -1,9 +1,7 @@
-use Rattle.std.proofs.Common.{◌≡◌, ℕ, Bool, true, false, cond, List, Ok, Err, Result, sym, refl, ap, ◌∙◌, subst, ap₂, arith}
+use Rattle.std.proofs.Common.{◌≡◌, ℕ, true, false, Ok, Err, sym, refl, ap, ◌∙◌, subst, arith}
 use Rattle.std.proofs.lemmas.Result.{err_from_is_err_and}
-use Rattle.diagram.specs.declared.edges.Edge.{Edge}
-use Rattle.diagram.specs.declared.refusals.Refusal.{Refusal}
 use Rattle.unique.specs.Shelf.{diamonds_in}
-use Rattle.engine.specs.Steps.{Outcome, combine_step, negate_step, answered, given}
+use Rattle.engine.specs.Steps.{Outcome, combine_step, negate_step, given}
 use Rattle.engine.specs.Laws.{MapAfter}
 use Rattle.engine.proofs.Lawlike.{state_well}
 use Rattle.engine.proofs.Remembered.{key}

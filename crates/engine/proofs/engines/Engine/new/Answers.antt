@@ -1,4 +1,4 @@
-use Rattle.std.proofs.Common.{◌≡◌, ℕ, List, length, None, Option, refl, ap, ◌∙◌, subst, arith, rules}
+use Rattle.std.proofs.Common.{◌≡◌, List, length, None, Option, refl, ap, ◌∙◌, subst, arith, rules}
 use lib.ListN.{length-replicate}
 use Rattle.cache.specs.declared.entries.Entry.{Entry}
 use Rattle.cache.specs.Tables.{table_places, Stands}

@@ -1,4 +1,4 @@
-use Rattle.std.proofs.Common.{◌≡◌, arith}
+use Rattle.std.proofs.Common.{arith}
 use Rattle.engine.proofs.Remembered.{noted_right}
 use Rattle.engine.proofs.engines.Engine.note.Goals as goal
 

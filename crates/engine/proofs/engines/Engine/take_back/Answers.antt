@@ -1,4 +1,4 @@
-use Rattle.std.proofs.Common.{◌≡◌, ℕ, List, length, take, replicate, None, Option, sym, ap, ◌∙◌, subst}
+use Rattle.std.proofs.Common.{ℕ, length, take, replicate, None, Option, sym, ap, ◌∙◌, subst}
 use lib.ListN.{length-replicate}
 use Rattle.dialect.specs.declared.profiles.Profile.{Profile}
 use Rattle.cache.specs.declared.entries.Entry.{Entry}

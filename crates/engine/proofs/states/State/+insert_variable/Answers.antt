@@ -1,6 +1,5 @@
-use Rattle.std.proofs.Common.{◌≡◌, ℕ, ◌-◌, ◌<◌, ◌≤◌, true, false, List, is_some, Some, Ok, Err, Result, sym, refl, ap, ◌∙◌, subst, ap₂, arith, rules}
+use Rattle.std.proofs.Common.{◌≡◌, ℕ, ◌-◌, true, false, is_some, Some, Ok, Err, Result, sym, ap, ◌∙◌, subst, ap₂, arith}
 use Rattle.unique.specs.Shelf.{diamonds_in}
-use Rattle.unique.proofs.Few.{few_in}
 use Rattle.std.proofs.lemmas.Result.{err_from_is_err_and}
 use Rattle.diagram.specs.declared.edges.Edge.{Edge}
 use Rattle.diagram.specs.declared.letters.Letter.TheVariants.{U}
@@ -9,9 +8,9 @@ use Rattle.diagram.specs.declared.refusals.Refusal.{Refusal}
 use Rattle.diagram.specs.Rules.{variable}
 use Rattle.diagram.specs.Edges.{put}
 use Rattle.diagram.specs.Making.{make}
-use Rattle.diagram.specs.Records.{edge_of, store_of, edge_record, constant_record, with_letter}
+use Rattle.diagram.specs.Records.{edge_of, store_of, edge_record, constant_record}
 use Rattle.diagram.proofs.Tests.{tested}
-use Rattle.engine.specs.Steps.{Outcome, kept, inserted}
+use Rattle.engine.specs.Steps.{kept, inserted}
 use Rattle.engine.specs.States.{HalvesFit}
 use Rattle.engine.proofs.Marks.{constants_fit, inserted_first, inserted_later, refused_later, later_set}
 use Rattle.engine.proofs.states.State.+insert_variable.Goals as goal

@@ -1,4 +1,4 @@
-use Rattle.std.proofs.Common.{◌≡◌, Bool, sym, ap, ◌∙◌, subst, arith}
+use Rattle.std.proofs.Common.{Bool, ap, ◌∙◌, subst, arith}
 use Rattle.unique.specs.Shelf.{diamonds_in}
 use Rattle.diagram.specs.Records.{edge_of, store_of}
 use Rattle.diagram.proofs.Tests.{tested}

@@ -1,17 +1,16 @@
-use Rattle.std.proofs.Common.{◌≡◌, ℕ, ◌<◌, ◌≤◌, true, false, List, length, is_some, Some, None, Ok, Err, Option, Result, sym, refl, ap, ◌∙◌, subst, ap₂, arith, rules}
+use Rattle.std.proofs.Common.{◌≡◌, ◌≤◌, length, is_some, Some, None, Ok, Err, Result, sym, refl, ap, ◌∙◌, subst, ap₂}
 use Rattle.unique.specs.Shelf.{diamonds_in}
 use Rattle.unique.proofs.Few.{few_in}
 use Rattle.std.proofs.lemmas.Result.{err_from_is_err_and}
 use Rattle.diagram.specs.declared.edges.Edge.{Edge}
 use Rattle.diagram.specs.declared.edges.Diamond.{Diamond}
-use Rattle.diagram.specs.declared.letters.Letter.{Letter}
 use Rattle.diagram.specs.declared.meanings.Meaning.{Meaning}
 use Rattle.diagram.specs.declared.refusals.Refusal.{Refusal}
 use Rattle.diagram.specs.Edges.{put, flip}
 use Rattle.diagram.specs.Making.{source, add}
 use Rattle.diagram.specs.Records.{edge_of, store_of, edge_record, letter_for, with_letter, other_mark}
 use Rattle.diagram.proofs.Tests.{tested}
-use Rattle.engine.specs.Steps.{Outcome, kept}
+use Rattle.engine.specs.Steps.{kept}
 use Rattle.engine.specs.States.{Joins}
 use Rattle.engine.proofs.Choosing.{letter_set, made_letter, joins_upright, made_upright, joins_flipped, made_flipped, kept_flipped}
 use Rattle.engine.proofs.states.State.make.Goals as goal

@@ -1,4 +1,4 @@
-use Rattle.std.proofs.Common.{◌≡◌, Bool, sym, ap, ◌∙◌, subst}
+use Rattle.std.proofs.Common.{◌≡◌, Bool, sym, subst}
 use Rattle.diagram.specs.Edges.{sign}
 use Rattle.cache.specs.declared.entries.Key.{Key}
 use Rattle.unique.specs.Shelf.{diamonds_in}

@@ -1,4 +1,4 @@
-use Rattle.std.proofs.Common.{◌≡◌, ◌+◌, Bool, false, cond, eqb, None, sym, refl, subst}
+use Rattle.std.proofs.Common.{◌+◌, Bool, false, cond, eqb, None, sym, refl, subst}
 use Rattle.cache.specs.Caches.{Noted}
 use Rattle.cache.specs.Placing.{given_at, remainder_within, put_noted}
 use Rattle.shy.specs.Shy.{shy_place}
