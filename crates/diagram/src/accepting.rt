@@ -2,7 +2,7 @@
 ghost use Rattle.std.specs.Prelude.{◌≡◌, ◌+◌, ◌*◌, ◌^◌, ◌<◌, ◌≤◌, true, false, not, length, if◌then◌else◌, nat_lt};
 ghost use Rattle.diagram.specs.Rules.{arity as marks_of};
 ghost use Rattle.diagram.specs.Words.{letters_of};
-ghost use Rattle.diagram.specs.Edges.{Store, diamond_rule, foot as foot-of};
+ghost use Rattle.diagram.specs.Edges.{Store, diamond_rule, foot as foot_of};
 ghost use Rattle.diagram.specs.Acceptance.{usual, well_spelled};
 ghost use Rattle.diagram.specs.Records.{target_of, target_arity, arity_in, stands_in, spelled_edge, accepted_in, constant_record, halves_on, letter_chosen};
 
@@ -112,7 +112,7 @@ impl Meaning {
         requires spelled { spelled_edge edge ≡ true }
         requires upright { edge.negated ≡ false }
         requires short { edge.length + foot ≤ 20 }
-        ensures { (s : Store) → marks_of (foot-of (diamond_rule s) (target_of edge.target)) ≡ foot → result ≡ well_spelled self.now s (target_of edge.target) (letters_of edge.length edge.word) }
+        ensures { (s : Store) → marks_of (foot_of (diamond_rule s) (target_of edge.target)) ≡ foot → result ≡ well_spelled self.now s (target_of edge.target) (letters_of edge.length edge.word) }
     {
         match peel(edge.length, edge.word) {
             None => true,

@@ -67,6 +67,7 @@ impl Look {
         }
     }
 }
+
 // The partner of an answer's letter.
 fn partner_of(answer: Option<Letter>) -> Option<Letter>
     ensures { result ≡ partners answer }
@@ -102,6 +103,7 @@ impl Meaning {
             Letter::C11 => self.letters.c11,
         }
     }
+
     // Whether the letter can stand for two halves with this look.
     fn fits(&self, letter: Letter, look: Look) -> bool
         ensures { result ≡ fits self.now letter look }
