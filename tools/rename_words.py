@@ -15,6 +15,7 @@ import sys
 
 SIGNATURE = re.compile(r"^\s*(?:(?:abbrev|unfoldable|pub|opaque)\s+)*((?:[^\s(){}\[\],;:.=λ→]+\s+)*[^\s(){}\[\],;:.=λ→]+)\s+:(?:\s|$)(.*)")
 RECORD = re.compile(r"^\s*(?:pub\s+)?(?:record|data)\s+([^\s(){}:]+)")
+TACTICS = {"first_of": "first_value"}  # a name that would be a tactic's, and what stands for it
 WORDS = {"pub", "abbrev", "unfoldable", "opaque", "let", "mutual", "open", "use", "in"}
 TOKEN = re.compile(r"[^\s(){}\[\],;.\"=:λ→∷⌜⌝@]+")
 IMPORT = re.compile(r"use\s+([^\s;{]+)\.\{([^}]*)\}")
@@ -48,7 +49,8 @@ def declared(root):
 def renamed(name):
     if name[0].isupper():
         return "".join(p[0].upper() + p[1:] for p in name.split("-") if p)
-    return re.sub(r"-(?=[A-Za-z0-9])", "_", name).replace("′", "'")
+    name = re.sub(r"-(?=[A-Za-z0-9])", "_", name).replace("′", "'")
+    return TACTICS.get(name, name)
 
 
 def imported(root, own):

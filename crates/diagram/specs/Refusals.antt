@@ -1,5 +1,7 @@
 -- Refusals: the number of each, and what it carries.
-use Rattle.std.specs.Prelude.{ℕ, List, [], ◌∷◌, Some, None, Option}
+use Rattle.std.specs.Prelude.{◌≡◌, ◌↔◌, ℕ, Bool, List, [], ◌∷◌, Some, None, Option, IsTrue, nat_eq}
+use Rattle.std.specs.Option.{option_eq}
+use Rattle.std.specs.Ordering.{eq_of_both, on}
 use Rattle.diagram.specs.declared.refusals.Refusal.{Refusal}
 use Rattle.diagram.specs.declared.refusals.Refusal.TheVariants.{
   ArityOver,
@@ -71,6 +73,14 @@ refusal_values FirstLine = []
 refusal_values NoPlace = []
 
 -- the first of some values, if there is one
-abbrev pub first_of : List ℕ → Option ℕ
-first_of [] = None
-first_of (v ∷ vs) = Some v
+abbrev pub first_value : List ℕ → Option ℕ
+first_value [] = None
+first_value (v ∷ vs) = Some v
+
+-- the test by which the program compares refusals: the same number, and the same first value or none
+abbrev pub same_refusal : Refusal → Refusal → Bool
+same_refusal = eq_of_both (on refusal_number nat_eq) (on (λ x. first_value (refusal_values x)) (option_eq nat_eq))
+
+-- it holds just of a refusal and itself
+abbrev pub RefusalsTold : Type 0
+RefusalsTold = (x y : Refusal) → IsTrue (same_refusal x y) ↔ (x ≡ y)

@@ -1,8 +1,6 @@
 // What may be asked of a refusal.
-ghost use Rattle.std.specs.Prelude.{◌≡◌, ◌↔◌, IsTrue, nat_eq};
-ghost use Rattle.std.specs.Ordering.{eq_of_both, on};
-ghost use Rattle.std.specs.Option.{option_eq};
-ghost use Rattle.diagram.specs.Refusals.{refusal_number, refusal_values, first_of};
+ghost use Rattle.std.specs.Prelude.{◌≡◌, ◌↔◌, IsTrue};
+ghost use Rattle.diagram.specs.Refusals.{refusal_number, refusal_values, first_value, same_refusal};
 ghost use Rattle.std.specs.Cmp.Rules.{comparing};
 ghost use Rattle.std.proofs.Common.{rules};
 ghost use Rattle.std.specs.Cmp as Keys;
@@ -40,7 +38,7 @@ impl Refusal {
 
     // The place in a file that a bad record carries.
     pub fn place(self) -> Option<u32>
-        ensures { result ≡ first_of (refusal_values self) }
+        ensures { result ≡ first_value (refusal_values self) }
     {
         match self {
             Refusal::BadRecord { place } => Some(place),
@@ -50,12 +48,12 @@ impl Refusal {
 }
 
 impl PartialEq for Refusal {
-    ghost eq = { eq_of_both (on refusal_number nat_eq) (on (λ x. first_of (refusal_values x)) (option_eq nat_eq)) };
+    ghost eq = { same_refusal };
 
     ghost laws = { Keys.partial_equiv_from_equiv (Prim.search (comparing, rules)) };
 
     fn eq(&self, other: &Refusal) -> bool
-        ensures by_parts { result ≡ eq_of_both (on refusal_number nat_eq) (on (λ x. first_of (refusal_values x)) (option_eq nat_eq)) self.now other.now }
+        ensures by_parts { result ≡ same_refusal self.now other.now }
         ensures same { IsTrue result ↔ (self.now ≡ other.now) }
     {
         self.number() == other.number() && self.place() == other.place()

@@ -72,9 +72,9 @@ answered found (Ok e) = Ok (record { edge = e; found = found })
 answered found (Err x) = Err x
 
 -- the first of two answers, or the refusal
-abbrev pub first_of : Result (Combined × Combined) Refusal → Result Combined Refusal
-first_of (Ok p) = Ok p.0
-first_of (Err x) = Err x
+abbrev pub first_answer : Result (Combined × Combined) Refusal → Result Combined Refusal
+first_answer (Ok p) = Ok p.0
+first_answer (Err x) = Err x
 
 -- the negation of the edge e
 abbrev pub negate_step : Meaning → List Diamond → Edge → Outcome

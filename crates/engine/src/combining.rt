@@ -11,7 +11,7 @@ ghost use Rattle.cache.specs.declared.entries.Key.{Key};
 ghost use Rattle.cache.specs.Tables.{table_places};
 ghost use Rattle.cache.specs.Caches.{Noted};
 ghost use Rattle.unique.specs.Shelf.{diamonds_in};
-ghost use Rattle.engine.specs.Steps.{joint, combine_step, answered, first_of, negate_step, right_for, given};
+ghost use Rattle.engine.specs.Steps.{joint, combine_step, answered, first_answer, negate_step, right_for, given};
 ghost use Rattle.engine.specs.Laws.{HeldWell, MapAfter};
 ghost use Rattle.engine.specs.States.{KeyOfArity, HalfKey, Joined};
 
@@ -187,7 +187,7 @@ impl<C: Cache + Drop> Engine<C> {
         a: Edge,
         b: Edge,
     ) -> Result<(Combined, Combined), Refusal>
-        ensures answer { first_of result ≡ answered (given (C.Cache.held self.old.cache self.old.state.table (record { connective = connective; left = a; right = b }))) (combine_step self.old.state.profile.meaning (diamonds_in self.old.state.diamonds) connective a b).0 }
+        ensures answer { first_answer result ≡ answered (given (C.Cache.held self.old.cache self.old.state.table (record { connective = connective; left = a; right = b }))) (combine_step self.old.state.profile.meaning (diamonds_in self.old.state.diamonds) connective a b).0 }
         ensures same { IfOk result (λ p. p.1.edge ≡ p.0.edge) }
         ensures again { C.Cache.keeps ≡ true → IfOk result (λ p. p.1.found ≡ true) }
         ensures after { IfOk result (λ p. p.0.found ≡ true → p.1.found ≡ true) }

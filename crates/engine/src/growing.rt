@@ -46,13 +46,12 @@ impl State {
         if let Some(k) = self.diamonds.number(diamond) {
             return Ok(edge_to(k));
         }
-        if is_full(self.diamonds.len()) {
+        let k = self.diamonds.len();
+        if is_full(k) {
             return Err(Refusal::Full);
         }
-        match self.diamonds.push(diamond) {
-            Some(k) => Ok(edge_to(k)),
-            None => Err(Refusal::Full),
-        }
+        self.diamonds.push(diamond);
+        Ok(edge_to(k))
     }
 
     // The edge made from two halves: by the dialect's letter, or else by a diamond.

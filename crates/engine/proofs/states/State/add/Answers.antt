@@ -1,8 +1,9 @@
-use Rattle.std.proofs.Common.{◌≡◌, ◌≤◌, ◌∙◌, true, List, length, Ok, sym, refl, ap, ◌∙◌, subst, arith}
+use Rattle.std.proofs.Common.{◌≡◌, ℕ, ◌≤◌, Bool, true, false, cond, leb, List, length, Some, None, Option, Ok, sym, refl, ap, ◌∙◌, subst, arith}
 use Rattle.std.proofs.lemmas.Bool.{leb-true}
 use Rattle.diagram.specs.declared.edges.Edge.{Edge}
 use Rattle.diagram.specs.declared.edges.Diamond.{Diamond}
-use Rattle.diagram.specs.Records.{store_of}
+use Rattle.diagram.specs.Records.{store_of, edge_record}
+use Rattle.diagram.specs.Making.{diamond_edge}
 use Rattle.diagram.proofs.Made.{shallow_met}
 use Rattle.unique.specs.Shelf.{diamonds_in}
 use Rattle.unique.proofs.Few.{few_in}
@@ -10,7 +11,7 @@ use Rattle.engine.specs.Steps.{right_for}
 use Rattle.engine.specs.Laws.{HeldWell}
 use Rattle.engine.proofs.Joining.{add_found, add_full, number_less}
 use Rattle.engine.proofs.Lawlike.{state_well}
-use Rattle.engine.proofs.Pushed.{pushed_well, pushed_full, pushed_new}
+use Rattle.engine.proofs.Pushed.{pushed_well, pushed_new}
 use Rattle.engine.proofs.states.State.add.Goals as goal
 
 pub returns-in-Some : goal.returns-in-Some
@@ -49,29 +50,15 @@ pub returns-then-is_full-clause-outcome : goal.returns-then-is_full-clause-outco
 returns-then-is_full-clause-outcome c =
     let s = c.args.self.now in
     let ds = diamonds_in s.diamonds in
-    let full : 1024 ≤ length ds = omega (arith, leb-true 1024 c.len.result (sym c.is_full.ensures ∙ c.if-is_full.true), c.len.ensures) in
+    let full : 1024 ≤ length ds = omega (arith, leb-true 1024 c.len-k.result (sym c.is_full.ensures ∙ c.if-is_full.true), c.len-k.ensures) in
     sym (add_full s.profile.meaning ds c.args.diamond s.spelled c.requires full (sym c.in_default.ensures))
 
-pub returns-in-None : goal.returns-in-None
-returns-in-None c =
+pub returns-clause-outcome : goal.returns-clause-outcome
+returns-clause-outcome c =
     let s = c.args.self.now in
-    record {
-      outcome = pushed_full s.profile.meaning (diamonds_in s.diamonds) (state_well s) c.args.diamond c.requires (sym c.in_default.ensures) (diamonds_in c.push.new.self) c.in-None.ensures.answer c.in-None.ensures.diamonds;
-      profile = refl;
-      table = refl;
-    }
-
-pub returns-in-Some-push : goal.returns-in-Some-push
-returns-in-Some-push c =
-    let s = c.args.self.now in
-    let p = pushed_new s.profile.meaning (diamonds_in s.diamonds) (state_well s) c.args.diamond c.requires (sym c.in_default.ensures) c.in-Some-push.k (diamonds_in c.push.new.self) c.in-Some-push.ensures.answer c.in-Some-push.ensures.diamonds in
-    record {
-      outcome = ap (λ (r : Edge). (Ok r, diamonds_in c.push.new.self)) c.edge_to-in-Some-push.ensures ∙ p.1;
-      profile = refl;
-      table = refl;
-    }
-
-pub edge_to-requires-in-Some-push : goal.edge_to-requires-in-Some-push
-edge_to-requires-in-Some-push c =
-    let s = c.args.self.now in
-    (pushed_new s.profile.meaning (diamonds_in s.diamonds) (state_well s) c.args.diamond c.requires (sym c.in_default.ensures) c.in-Some-push.k (diamonds_in c.push.new.self) c.in-Some-push.ensures.answer c.in-Some-push.ensures.diamonds).0
+    let ds = diamonds_in s.diamonds in
+    let xs = diamonds_in c.push.new.self in
+    let few : leb 1024 (length ds) ≡ false = ap (leb 1024) (sym c.len-k.ensures) ∙ sym c.is_full.ensures ∙ c.if-is_full.false in
+    let next : ◌≡◌ {A = Option ℕ} (Some (length ds)) (cond (leb 1024 (length ds)) None (Some (length ds))) = ap (λ (b : Bool). cond b None (Some (length ds))) (sym few) in
+    let p = pushed_new s.profile.meaning ds (state_well s) c.args.diamond c.requires (sym c.in_default.ensures) (length ds) xs next c.push.ensures.diamonds in
+    ap (λ (r : Edge). (Ok r, xs)) c.edge_to-2.ensures ∙ ap (λ (k : ℕ). (Ok (edge_record (diamond_edge k)), xs)) c.len-k.ensures ∙ p.1
