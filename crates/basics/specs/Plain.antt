@@ -8,7 +8,7 @@ use Rattle.cache.specs.declared.entries.Key.{Key}
 
 -- the edge without its mark
 abbrev pub unmarked : Edge → Edge
-unmarked e = record { negated = false; length = e.length; word = e.word; target = e.target }
+unmarked e = record { negated = false; word = e.word; target = e.target }
 
 -- the edge with the other mark where b holds
 abbrev pub turned : Bool → Edge → Edge

@@ -1,18 +1,10 @@
 -- Combinations that are settled without halves: of constant, equal or opposite edges.
 use Rattle.std.specs.Prelude.{ℕ, Bool, true, false, cond, Some, None, Option}
-use Rattle.diagram.specs.declared.letters.Kind.{Kind}
-use Rattle.diagram.specs.declared.letters.Kind.TheVariants.{AllZero, AllOne, Mixed}
 use Rattle.diagram.specs.declared.edges.Edge.{Edge}
 use Rattle.diagram.specs.declared.meanings.Meaning.{Meaning}
 use Rattle.diagram.specs.Rules.{connective}
-use Rattle.diagram.specs.Records.{constant_record, kind_of, other_mark, same_record}
+use Rattle.diagram.specs.Records.{constant_record, constant_of, other_mark, same_record}
 use Rattle.cache.specs.declared.entries.Key.{Key}
-
--- the value of a kind that is constant
-abbrev pub fixed_at : Kind → Option Bool
-fixed_at AllZero = Some false
-fixed_at AllOne = Some true
-fixed_at Mixed = None
 
 -- the edge of n marks that is z where e is 0 and o where e is 1; none where that is the negation of e and the dialect does not negate
 abbrev pub by_one : Meaning → Bool → Bool → Edge → ℕ → Option Edge
@@ -32,4 +24,4 @@ settled_by D op None None a b n =
 
 -- the edge of a combination of n marks, where its two edges settle it; else none
 abbrev pub settled : Meaning → Key → ℕ → Option Edge
-settled D k n = settled_by D (connective k.connective) (fixed_at (kind_of k.left)) (fixed_at (kind_of k.right)) k.left k.right n
+settled D k n = settled_by D (connective k.connective) (constant_of k.left) (constant_of k.right) k.left k.right n

@@ -1,19 +1,23 @@
 // What calls ask of their numbers, and the key of a combination.
-ghost use Rattle.std.specs.Prelude.{◌≡◌, if◌then◌else◌, Ok, Err, nat_le};
+ghost use Rattle.std.specs.Prelude.{◌≡◌, if◌then◌else◌, Ok, Err, nat_le, nat_lt};
 ghost use Rattle.diagram.specs.declared.refusals.Refusal.TheVariants.{NoConnective};
 
 use cache::entries::Key;
 use diagram::edges::Edge;
 use diagram::refusals::Refusal;
 
+// The number, if it is below the bound; or else the refusal.
+pub fn below(number: u32, bound: u32, refusal: Refusal) -> Result<u32, Refusal>
+    ensures { result ≡ (if nat_lt number bound then Ok number else Err refusal) }
+{
+    (number < bound).then_some(number).ok_or(refusal)
+}
+
 // The number of a connective; refused if it is over 15.
 pub fn checked_connective(connective: u32) -> Result<u8, Refusal>
     ensures { result ≡ (if nat_le connective 15 then Ok connective else Err NoConnective) }
 {
-    if connective > 15 {
-        return Err(Refusal::NoConnective);
-    }
-    Ok(connective as u8)
+    Ok(below(connective, 16, Refusal::NoConnective)? as u8)
 }
 
 // The key of a combination.

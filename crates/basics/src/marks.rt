@@ -4,6 +4,7 @@ ghost use Rattle.diagram.specs.Records.{target_of};
 ghost use Rattle.basics.specs.Marks.{marked, newly};
 
 use diagram::edges::{Diamond, Target};
+use std::mem;
 
 // Marks the target, if it is a diamond, and says how many marks that sets anew.
 pub fn mark(marks: &mut [bool], target: Target) -> usize
@@ -12,9 +13,7 @@ pub fn mark(marks: &mut [bool], target: Target) -> usize
 {
     match target {
         Target::Diamond(k) if (k as usize) < marks.len() => {
-            let was = marks[k as usize];
-            marks[k as usize] = true;
-            if was { 0 } else { 1 }
+            usize::from(!mem::replace(&mut marks[k as usize], true))
         }
         _ => 0,
     }
@@ -25,6 +24,5 @@ pub fn mark_edges(marks: &mut [bool], diamond: Diamond) -> usize
     ensures marks { marks.new ≡ marked (marked marks.old (target_of diamond.low.target)) (target_of diamond.high.target) }
     ensures new { result ≡ newly marks.old (target_of diamond.low.target) + newly (marked marks.old (target_of diamond.low.target)) (target_of diamond.high.target) }
 {
-    let low = mark(marks, diamond.low.target);
-    low + mark(marks, diamond.high.target)
+    mark(marks, diamond.low.target) + mark(marks, diamond.high.target)
 }

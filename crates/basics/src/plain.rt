@@ -1,6 +1,5 @@
 // Combinations of unmarked edges: in a dialect that negates, every combination is one of these, or its negation.
 ghost use Rattle.std.specs.Prelude.{◌≡◌};
-ghost use Rattle.diagram.specs.Dialects.{flips};
 ghost use Rattle.basics.specs.Plain.{unmarked, turned, bits, plain_mark, plain_value, plain_key};
 
 use crate::settling::connect;
@@ -13,24 +12,8 @@ pub fn unmarked(edge: Edge) -> Edge
 {
     Edge {
         negated: false,
-        length: edge.length,
-        word: edge.word,
-        target: edge.target,
+        ..edge
     }
-}
-
-// The edge, with the other mark where `negated` holds.
-pub fn turned(edge: Edge, negated: bool) -> Edge
-    ensures { result ≡ turned negated edge }
-{
-    if negated { edge.flip() } else { edge }
-}
-
-// The value, reversed where `negated` holds.
-fn reversed(negated: bool, value: bool) -> bool
-    ensures { result ≡ flips negated value }
-{
-    if negated { !value } else { value }
 }
 
 // Whether the combination is 1 where both unmarked edges are 0.
@@ -44,38 +27,46 @@ fn plain_mark(key: Key) -> bool
 fn plain_value(key: Key, x: bool, y: bool) -> bool
     ensures { result ≡ plain_value key x y }
 {
-    let left = reversed(key.left.negated, x);
-    let right = reversed(key.right.negated, y);
-    reversed(plain_mark(key), connect(key.connective, left, right))
+    let value = connect(key.connective, x ^ key.left.negated, y ^ key.right.negated);
+    value ^ plain_mark(key)
 }
 
 // The connective with the value 0 at (0,0) and these at (0,1), (1,0) and (1,1).
 fn bits(p: bool, q: bool, r: bool) -> u8
     ensures { result ≡ bits p q r }
 {
-    match (p, q, r) {
-        (false, false, false) => 0,
-        (true, false, false) => 2,
-        (false, true, false) => 4,
-        (true, true, false) => 6,
-        (false, false, true) => 8,
-        (true, false, true) => 10,
-        (false, true, true) => 12,
-        (true, true, true) => 14,
-    }
+    2 * u8::from(p) + 4 * u8::from(q) + 8 * u8::from(r)
 }
 
-// The combination of the unmarked edges that is this one, or its negation: which of the two comes with it.
-pub fn plain(key: Key) -> (Key, bool)
-    ensures { result ≡ (plain_key key, plain_mark key) }
-{
-    let p = plain_value(key, false, true);
-    let q = plain_value(key, true, false);
-    let r = plain_value(key, true, true);
-    let plain = Key {
-        connective: bits(p, q, r),
-        left: unmarked(key.left),
-        right: unmarked(key.right),
-    };
-    (plain, plain_mark(key))
+// A combination of unmarked edges, and whether the one that was asked for is its negation.
+#[derive(Clone, Copy)]
+pub struct Plain {
+    pub key: Key,
+    pub negated: bool,
+}
+
+impl Plain {
+    // The combination of unmarked edges that this one is, or is the negation of.
+    pub fn of(key: Key) -> Plain
+        ensures { result ≡ record { key = plain_key key; negated = plain_mark key } }
+    {
+        let p = plain_value(key, false, true);
+        let q = plain_value(key, true, false);
+        let r = plain_value(key, true, true);
+        Plain {
+            key: Key {
+                connective: bits(p, q, r),
+                left: unmarked(key.left),
+                right: unmarked(key.right),
+            },
+            negated: plain_mark(key),
+        }
+    }
+
+    // The edge of the combination that was asked for, from that of the unmarked edges.
+    pub fn restore(self, edge: Edge) -> Edge
+        ensures { result ≡ turned self.negated edge }
+    {
+        if self.negated { edge.flip() } else { edge }
+    }
 }

@@ -1,12 +1,10 @@
 // Combinations that are settled without halves.
 ghost use Rattle.std.specs.Prelude.{◌≡◌};
 ghost use Rattle.diagram.specs.Rules.{worth, connective};
-ghost use Rattle.diagram.specs.Records.{kind_of};
-ghost use Rattle.basics.specs.Settled.{fixed_at, by_one, settled};
+ghost use Rattle.basics.specs.Settled.{by_one, settled};
 
 use cache::entries::Key;
 use diagram::edges::Edge;
-use diagram::letters::Kind;
 use diagram::meanings::Meaning;
 
 // The worth of the bit that is a connective's value at (a, b).
@@ -28,17 +26,6 @@ pub(crate) fn connect(number: u8, a: bool, b: bool) -> bool
     number / worth(a, b) % 2 == 1
 }
 
-// The value of an edge that is constant.
-fn fixed(edge: Edge) -> Option<bool>
-    ensures { result ≡ fixed_at (kind_of edge) }
-{
-    match edge.kind() {
-        Kind::AllZero => Some(false),
-        Kind::AllOne => Some(true),
-        Kind::Mixed => None,
-    }
-}
-
 // The edge of n marks that is `zero` where the given one is 0, and `one` where that is 1; none where the dialect would have to negate and does not.
 fn by_one(meaning: Meaning, zero: bool, one: bool, edge: Edge, n: u8) -> Option<Edge>
     ensures { result ≡ by_one meaning zero one edge n }
@@ -55,25 +42,14 @@ fn by_one(meaning: Meaning, zero: bool, one: bool, edge: Edge, n: u8) -> Option<
 pub fn settled(meaning: Meaning, key: Key, n: u8) -> Option<Edge>
     ensures { result ≡ settled meaning key n }
 {
-    let (op, a, b) = (key.connective, key.left, key.right);
-    match (fixed(a), fixed(b)) {
-        (Some(v), Some(w)) => Some(meaning.constant(n, connect(op, v, w))),
-        (Some(v), None) => by_one(meaning, connect(op, v, false), connect(op, v, true), b, n),
-        (None, Some(w)) => by_one(meaning, connect(op, false, w), connect(op, true, w), a, n),
-        (None, None) if a.same(b) => by_one(
-            meaning,
-            connect(op, false, false),
-            connect(op, true, true),
-            a,
-            n,
-        ),
-        (None, None) if a.same(b.flip()) => by_one(
-            meaning,
-            connect(op, false, true),
-            connect(op, true, false),
-            a,
-            n,
-        ),
+    let (a, b) = (key.left, key.right);
+    let op = |x, y| connect(key.connective, x, y);
+    match (a.constant_value(), b.constant_value()) {
+        (Some(v), Some(w)) => Some(meaning.constant(n, op(v, w))),
+        (Some(v), None) => by_one(meaning, op(v, false), op(v, true), b, n),
+        (None, Some(w)) => by_one(meaning, op(false, w), op(true, w), a, n),
+        (None, None) if a.same(b) => by_one(meaning, op(false, false), op(true, true), a, n),
+        (None, None) if a.same(b.flip()) => by_one(meaning, op(false, true), op(true, false), a, n),
         (None, None) => None,
     }
 }

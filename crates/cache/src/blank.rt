@@ -8,13 +8,13 @@ use crate::tables::Table;
 use diagram::edges::Edge;
 
 // Finds nothing and notes nothing, so every combination is worked out again.
-#[derive(Drop)]
+#[derive(Clone, Copy)]
 pub struct Blank;
 
 impl Cache for Blank {
     const KEEPS: bool = false;
 
-    ghost keeps = { false };
+    ghost KEEPS = { false };
 
     ghost wants = { λ _. 1 };
 
@@ -23,10 +23,6 @@ impl Cache for Blank {
     ghost honest = { Prim.search rules };
 
     ghost roomy = { Prim.search rules };
-
-    fn keeping() -> bool {
-        Self::KEEPS
-    }
 
     fn places(&self) -> usize {
         1
@@ -41,11 +37,4 @@ impl Cache for Blank {
     fn forget(&mut self, table: &mut Table) {
         table.clear();
     }
-}
-
-// Whether the blank cache keeps what it notes, by its constant.
-pub fn blank_keeps() -> bool
-    ensures { result ≡ false }
-{
-    Blank::KEEPS
 }

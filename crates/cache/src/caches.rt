@@ -3,7 +3,7 @@ ghost use Rattle.std.specs.Prelude.{◌≡◌, ℕ, ◌<◌, Bool, length, repli
 ghost use Rattle.diagram.specs.declared.edges.Edge.{Edge};
 ghost use Rattle.cache.specs.declared.entries.Key.{Key};
 ghost use Rattle.cache.specs.declared.tables.Table.{Table};
-ghost use Rattle.cache.specs.Tables.{table_places, Stands};
+ghost use Rattle.cache.specs.Tables.{Stands};
 ghost use Rattle.cache.specs.Caches.{Noted};
 
 use crate::entries::Key;
@@ -16,18 +16,13 @@ pub trait Cache {
     // Whether a key gives its edge as soon as it is noted.
     const KEEPS: bool;
 
-    // `KEEPS`, as clauses name it.
-    ghost keeps: { Bool };
+    ghost KEEPS: { Bool };
 
     // How many places the cache wants in its table.
     ghost wants: { Self → ℕ };
 
     // The map: the edge that the cache gives for a key with a table, or none.
     ghost held: { Self → Table → Key → Option Edge };
-
-    // `KEEPS`.
-    fn keeping() -> bool
-        ensures { result ≡ keeps };
 
     // How many places the table of this cache is to have.
     fn places(&self) -> usize
@@ -41,18 +36,25 @@ pub trait Cache {
 
     // Notes an edge for a key; other keys may be lost.
     fn note(&mut self, table: &mut Table, key: Key, edge: Edge)
-        ensures noted { Noted keeps table.old table.new (held self.old table.old) (held self.new table.new) key edge }
+        ensures noted { Noted KEEPS table.old table.new (held self.old table.old) (held self.new table.new) key edge }
         ensures places { wants self.new ≡ wants self.old };
 
     // Empties the table and the map.
     fn forget(&mut self, table: &mut Table)
-        ensures empty { table_places table.new ≡ replicate (length (table_places table.old)) None }
+        ensures empty { table.new ≡ replicate (length table.old) None }
         ensures none { (k : Key) → held self.new table.new k ≡ None }
         ensures places { wants self.new ≡ wants self.old };
 
     // What the cache gives stands in the table.
-    ghost honest: { (c : Self) (t : Table) (k : Key) (e : Edge) → held c t k ≡ Some e → Stands (table_places t) k e };
+    ghost honest: { (c : Self) (t : Table) (k : Key) (e : Edge) → held c t k ≡ Some e → Stands t k e };
 
     // Every cache wants a place.
     ghost roomy: { (c : Self) → 0 < wants c };
+}
+
+// Whether a key gives its edge in such a cache as soon as it is noted.
+pub fn keeps<C: Cache>() -> bool
+    ensures { result ≡ C.Cache.KEEPS }
+{
+    C::KEEPS
 }

@@ -10,18 +10,15 @@ impl Key {
     pub fn same(self, other: Key) -> bool
         ensures { result ≡ same_key self other }
     {
-        self.connective == other.connective
-            && self.left.same(other.left)
-            && self.right.same(other.right)
+        self == other
     }
 
     // The edge that a place has for the key: that of its entry, if it is an entry of this key.
     pub fn edge_in(self, place: Option<Entry>) -> Option<Edge>
         ensures { result ≡ edge_for self place }
     {
-        match place {
-            Some(entry) if entry.key.same(self) => Some(entry.edge),
-            _ => None,
-        }
+        place
+            .filter(|entry| entry.key.same(self))
+            .map(|entry| entry.edge)
     }
 }

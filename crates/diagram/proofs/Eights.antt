@@ -1,11 +1,12 @@
 -- Octal digits: powers of 8, and one letter more or less on a word.
-use Rattle.std.proofs.Common.{◌≡◌, ℕ, zero, suc, ◌+◌, ◌-◌, ◌*◌, ◌/◌, ◌%◌, ◌^◌, ◌<◌, ◌≤◌, Bool, true, false, cond, ◌&&◌, leb, ◌∷◌, Some, None, refl, ap, ◌∙◌, arith}
+use Rattle.std.proofs.Common.{◌≡◌, ℕ, zero, suc, ◌+◌, ◌-◌, ◌*◌, ◌/◌, ◌%◌, ◌^◌, ◌<◌, ◌≤◌, Bool, true, false, cond, ◌&&◌, ltb, leb, ◌∷◌, Some, None, refl, ap, ◌∙◌, arith}
 use native.Mathlib.Nat.{pow-le-pow_right}
 use Rattle.std.proofs.lemmas.Nat.{div-mul-add, mod-mul-add}
-use Rattle.std.proofs.lemmas.Bool.{lt-ltb, le-leb}
+use Rattle.std.proofs.lemmas.Bool.{lt-ltb, le-leb, ltb-true}
 use Rattle.diagram.specs.declared.letters.Letter.{Letter}
+use Rattle.diagram.specs.declared.edges.Word.{Word}
 use Rattle.diagram.specs.Letters.{letter_code, letter_of, letter_with}
-use Rattle.diagram.specs.Words.{letters_of, spells, peeled}
+use Rattle.diagram.specs.Words.{letters_of, spells, word, peeled}
 use Rattle.diagram.proofs.Laws.{letter_of_code}
 use Rattle.diagram.proofs.Spelling.{code_most}
 
@@ -31,23 +32,51 @@ letter_some d c = go (leb d 5) refl
     go true e p = (e, cc)
     go false e p = let z : ◌≡◌ {A = ℕ} 0 1 = cc in absurd (omega arith)
 
-pub peel_some : (n x : ℕ) (c : Letter) → 0 < n → n ≤ 20 → letter_with (x / 8 ^ (n - 1)) ≡ Some c →
-    (peeled n x ≡ Some (c, x % 8 ^ (n - 1))) × (letters_of n x ≡ c ∷ letters_of (n - 1) (x % 8 ^ (n - 1))) × (spells n x ≡ spells (n - 1) (x % 8 ^ (n - 1)))
+pub peel_some : (n x : ℕ) (c : Letter) → 0 < n → n ≤ 20 → letter_with (x / 8 ^ (n - 1)) ≡ Some c → peeled (word n x) ≡ Some (c, word (n - 1) (x % 8 ^ (n - 1)))
 peel_some n x c h l e =
     let p = letter_some (x / 8 ^ (n - 1)) c e in
     let a = lt-ltb 0 n h in
     let b = le-leb n 20 l in
     let d = p.0 in
     let q = p.1 in
-    (simp (a, b, d, q), letters_step n x h ∙ ap (λ (y : Letter). y ∷ letters_of (n - 1) (x % 8 ^ (n - 1))) q, spells_step n x h ∙ simp d)
+    simp (a, b, d, q)
+
+-- what is peeled off a word is its topmost letter, and the word of the other letters
+pub peeled_parts : (w : Word) (c : Letter) (v : Word) → peeled w ≡ Some (c, v) →
+    (w.length ≡ v.length + 1) × (letters_of w.length w.digits ≡ c ∷ letters_of v.length v.digits) × (spells w.length w.digits ≡ spells v.length v.digits)
+peeled_parts w c v = go (ltb 0 n) refl (leb n 20) (leb (x / 8 ^ (n - 1)) 5) refl
+  where
+    n : ℕ
+    n = w.length
+
+    x : ℕ
+    x = w.digits
+
+    top : Letter × Word
+    top = (letter_of (x / 8 ^ (n - 1)), word (n - 1) (x % 8 ^ (n - 1)))
+
+    go : (a : Bool) → ltb 0 n ≡ a → (b d : Bool) → leb (x / 8 ^ (n - 1)) 5 ≡ d → cond (a && (b && d)) (Some top) None ≡ Some (c, v) →
+        (n ≡ v.length + 1) × (letters_of n x ≡ c ∷ letters_of v.length v.digits) × (spells n x ≡ spells v.length v.digits)
+    go true p true true q h =
+        let l = ltb-true 0 n p in
+        let i : top ≡ (c, v) = cc in
+        let m = ap (λ (z : Letter × Word). z.1.length) i in
+        let s : (leb (x / 8 ^ (n - 1)) 5 && spells (n - 1) (x % 8 ^ (n - 1))) ≡ spells (n - 1) (x % 8 ^ (n - 1)) = simp q in (
+          omega arith,
+          letters_step n x l ∙ ap (λ (z : Letter × Word). z.0 ∷ letters_of z.1.length z.1.digits) i,
+          spells_step n x l ∙ s ∙ ap (λ (z : Letter × Word). spells z.1.length z.1.digits) i,
+        )
+    go true p true false q h = let z : ◌≡◌ {A = ℕ} 0 1 = cc in absurd (omega arith)
+    go true p false d q h = let z : ◌≡◌ {A = ℕ} 0 1 = cc in absurd (omega arith)
+    go false p b d q h = let z : ◌≡◌ {A = ℕ} 0 1 = cc in absurd (omega arith)
 
 -- where nothing can be peeled, the word does not spell
-pub peel_none : (n x : ℕ) → 0 < n → peeled n x ≡ None → (leb n 20 && spells n x) ≡ false
+pub peel_none : (n x : ℕ) → 0 < n → peeled (word n x) ≡ None → (leb n 20 && spells n x) ≡ false
 peel_none n x h e =
     let a = lt-ltb 0 n h in
-    rw (spells_step n x h) (go (leb n 20) (leb (x / 8 ^ (n - 1)) 5) (spells (n - 1) (x % 8 ^ (n - 1))) (letter_of (x / 8 ^ (n - 1)), x % 8 ^ (n - 1)) (simp a at e))
+    rw (spells_step n x h) (go (leb n 20) (leb (x / 8 ^ (n - 1)) 5) (spells (n - 1) (x % 8 ^ (n - 1))) (letter_of (x / 8 ^ (n - 1)), word (n - 1) (x % 8 ^ (n - 1))) (simp a at e))
   where
-    go : (b d r : Bool) (v : Letter × ℕ) → cond (b && d) (Some v) None ≡ None → (b && (d && r)) ≡ false
+    go : (b d r : Bool) (v : Letter × Word) → cond (b && d) (Some v) None ≡ None → (b && (d && r)) ≡ false
     go true true r v p = let z : ◌≡◌ {A = ℕ} 0 1 = cc in absurd (omega arith)
     go true false r v p = refl
     go false d r v p = refl

@@ -5,9 +5,7 @@ use Rattle.diagram.specs.declared.letters.Letter.{Letter}
 use Rattle.diagram.specs.declared.letters.Letter.TheVariants.{U, X, C00, C01, C10, C11}
 use Rattle.diagram.specs.Letters.{partner, letter_code}
 use Rattle.diagram.specs.Edges.{Target, terminal, diamond, Edge, edge, Store, flip, put, spell, foot, diamond_rule, rule_of, same}
-use Rattle.diagram.specs.declared.letters.Kind.{Kind}
-use Rattle.diagram.specs.declared.letters.Kind.TheVariants.{AllZero, AllOne, Mixed}
-use Rattle.diagram.specs.Dialects.{look, Lawful, all_u, constantly, flips, kind_at, kind, look_at, low_kind, high_kind, opposed, is, fits, has_letter, answer_at}
+use Rattle.diagram.specs.Dialects.{look, Lawful, all_u, flips, constant_at, constant_value, look_at, low_constant, high_constant, opposed, is, fits, has_letter, answer_at}
 use Rattle.diagram.specs.declared.meanings.Meaning.{Meaning}
 use Rattle.diagram.specs.Making.{flat, source, written, choose, low_of, high_of, upright}
 use Rattle.diagram.specs.Acceptance.{Accepted}
@@ -26,33 +24,37 @@ all_u_word [] e = refl
 all_u_word (c ∷ w) e =
     ap₂ ◌∷◌ (letter_eq c U (and_left (eqb (letter_code c) 0) (all_u w) e)) (all_u_word w (and_right (eqb (letter_code c) 0) (all_u w) e))
 
-pub not_other : (b : Bool) → is b Mixed ≡ true → ⊥
+pub not_other : (b : Bool) → is b None ≡ true → ⊥
 not_other true e = let z : ◌≡◌ {A = ℕ} 0 1 = cc in omega arith
 not_other false e = let z : ◌≡◌ {A = ℕ} 0 1 = cc in omega arith
 
-is_constantly : (b c : Bool) → is b (constantly c) ≡ true → c ≡ b
-is_constantly true true e = refl
-is_constantly true false e = e
-is_constantly false true e = cc
-is_constantly false false e = refl
+is_some : (b c : Bool) → is b (Some c) ≡ true → c ≡ b
+is_some true true e = refl
+is_some true false e = e
+is_some false true e = cc
+is_some false false e = refl
+
+pub is_itself : (b : Bool) → is b (Some b) ≡ true
+is_itself true = refl
+is_itself false = refl
 
 flips_false : (n : Bool) → flips n false ≡ n
 flips_false true = refl
 flips_false false = refl
 
-abbrev KindFact : Bool → Bool → Target → Bool → Type 0
-KindFact a n t b = (a ≡ true) × ((c : Bool) × ((t ≡ terminal c) × (flips n c ≡ b)))
+abbrev ConstantFact : Bool → Bool → Target → Bool → Type 0
+ConstantFact a n t b = (a ≡ true) × ((c : Bool) × ((t ≡ terminal c) × (flips n c ≡ b)))
 
-kind_fact : (a n : Bool) (t : Target) (b : Bool) → is b (kind_at a n t) ≡ true → KindFact a n t b
-kind_fact true n (terminal c) b e = (refl, (c, (refl, is_constantly b (flips n c) e)))
-kind_fact true n (diamond k) b e = absurd (not_other b e)
-kind_fact false n t b e = absurd (not_other b e)
+constant_fact : (a n : Bool) (t : Target) (b : Bool) → is b (constant_at a n t) ≡ true → ConstantFact a n t b
+constant_fact true n (terminal c) b e = (refl, (c, (refl, is_some b (flips n c) e)))
+constant_fact true n (diamond k) b e = absurd (not_other b e)
+constant_fact false n t b e = absurd (not_other b e)
 
-pub flat_kind : (D : Meaning) (s : Store) (e : Edge) (b : Bool) → Accepted D s e → is b (kind e) ≡ true → e ≡ flat D (arity (rule_of s e)) b
-flat_kind D s e b a q = go D.negates refl fact.1.0 refl
+pub flat_constant : (D : Meaning) (s : Store) (e : Edge) (b : Bool) → Accepted D s e → is b (constant_value e) ≡ true → e ≡ flat D (arity (rule_of s e)) b
+flat_constant D s e b a q = go D.negates refl fact.1.0 refl
   where
-    fact : KindFact (all_u e.word) e.negated e.target b
-    fact = kind_fact (all_u e.word) e.negated e.target b q
+    fact : ConstantFact (all_u e.word) e.negated e.target b
+    fact = constant_fact (all_u e.word) e.negated e.target b q
 
     long : arity (rule_of s e) ≡ length e.word
     long =
@@ -79,44 +81,44 @@ flat_kind D s e b a q = go D.negates refl fact.1.0 refl
 
 -- What a look says of the halves --
 
-low_is : (b : Bool) (j k : Kind) (o : Bool) → is b (low_kind (look_at j k o)) ≡ true → is b j ≡ true
-low_is b AllZero AllZero o e = absurd (not_other b e)
-low_is b AllZero AllOne o e = e
-low_is b AllZero Mixed o e = e
-low_is b AllOne AllZero o e = e
-low_is b AllOne AllOne o e = absurd (not_other b e)
-low_is b AllOne Mixed o e = e
-low_is b Mixed AllZero o e = e
-low_is b Mixed AllOne o e = e
-low_is b Mixed Mixed true e = e
-low_is b Mixed Mixed false e = e
+low_is : (b : Bool) (j k : Option Bool) (o : Bool) → is b (low_constant (look_at j k o)) ≡ true → is b j ≡ true
+low_is b (Some false) (Some false) o e = absurd (not_other b e)
+low_is b (Some false) (Some true) o e = e
+low_is b (Some false) None o e = e
+low_is b (Some true) (Some false) o e = e
+low_is b (Some true) (Some true) o e = absurd (not_other b e)
+low_is b (Some true) None o e = e
+low_is b None (Some false) o e = e
+low_is b None (Some true) o e = e
+low_is b None None true e = e
+low_is b None None false e = e
 
-high_is : (b : Bool) (j k : Kind) (o : Bool) → is b (high_kind (look_at j k o)) ≡ true → is b k ≡ true
-high_is b AllZero AllZero o e = absurd (not_other b e)
-high_is b AllZero AllOne o e = e
-high_is b AllZero Mixed o e = e
-high_is b AllOne AllZero o e = e
-high_is b AllOne AllOne o e = absurd (not_other b e)
-high_is b AllOne Mixed o e = e
-high_is b Mixed AllZero o e = e
-high_is b Mixed AllOne o e = e
-high_is b Mixed Mixed true e = e
-high_is b Mixed Mixed false e = e
+high_is : (b : Bool) (j k : Option Bool) (o : Bool) → is b (high_constant (look_at j k o)) ≡ true → is b k ≡ true
+high_is b (Some false) (Some false) o e = absurd (not_other b e)
+high_is b (Some false) (Some true) o e = e
+high_is b (Some false) None o e = e
+high_is b (Some true) (Some false) o e = e
+high_is b (Some true) (Some true) o e = absurd (not_other b e)
+high_is b (Some true) None o e = e
+high_is b None (Some false) o e = e
+high_is b None (Some true) o e = e
+high_is b None None true e = e
+high_is b None None false e = e
 
-abbrev Opposed : Kind → Kind → Bool → Type 0
+abbrev Opposed : Option Bool → Option Bool → Bool → Type 0
 Opposed j k o = (o ≡ true) ⊎ ((b : Bool) × ((is b j ≡ true) × (is (not b) k ≡ true)))
 
-opposed_is : (j k : Kind) (o : Bool) → opposed (look_at j k o) ≡ true → Opposed j k o
-opposed_is AllZero AllZero o e = inl (cc)
-opposed_is AllZero AllOne o e = inr (false, (refl, refl))
-opposed_is AllZero Mixed o e = inl (cc)
-opposed_is AllOne AllZero o e = inr (true, (refl, refl))
-opposed_is AllOne AllOne o e = inl (cc)
-opposed_is AllOne Mixed o e = inl (cc)
-opposed_is Mixed AllZero o e = inl (cc)
-opposed_is Mixed AllOne o e = inl (cc)
-opposed_is Mixed Mixed true e = inl refl
-opposed_is Mixed Mixed false e = inl (cc)
+opposed_is : (j k : Option Bool) (o : Bool) → opposed (look_at j k o) ≡ true → Opposed j k o
+opposed_is (Some false) (Some false) o e = inl (cc)
+opposed_is (Some false) (Some true) o e = inr (false, (refl, refl))
+opposed_is (Some false) None o e = inl (cc)
+opposed_is (Some true) (Some false) o e = inr (true, (refl, refl))
+opposed_is (Some true) (Some true) o e = inl (cc)
+opposed_is (Some true) None o e = inl (cc)
+opposed_is None (Some false) o e = inl (cc)
+opposed_is None (Some true) o e = inl (cc)
+opposed_is None None true e = inl refl
+opposed_is None None false e = inl (cc)
 
 -- The letter that is chosen, and the halves that it stands for --
 
@@ -128,27 +130,27 @@ pub record Lettered (D : Meaning) (s : Store) (l h e : Edge) : Type 0 where
   pub high_is : h ≡ high_of c (flat D (arity (rule_of s (source c l h)))) (source c l h)
 
 module _ (D : Meaning) (law : Lawful D) (s : Store) (l h : Edge) (la : Accepted D s l) (ha : Accepted D s h) (level : arity (rule_of s l) ≡ arity (rule_of s h)) where
-  low_flat : (b : Bool) → is b (low_kind (look D l h)) ≡ true → l ≡ flat D (arity (rule_of s h)) b
+  low_flat : (b : Bool) → is b (low_constant (look D l h)) ≡ true → l ≡ flat D (arity (rule_of s h)) b
   low_flat b e =
-      flat_kind D s l b la (low_is b (kind l) (kind h) (D.negates && same l (flip h)) e) ∙ ap (λ (n : ℕ). flat D n b) level
+      flat_constant D s l b la (low_is b (constant_value l) (constant_value h) (D.negates && same l (flip h)) e) ∙ ap (λ (n : ℕ). flat D n b) level
 
-  high_flat : (b : Bool) → is b (high_kind (look D l h)) ≡ true → h ≡ flat D (arity (rule_of s l)) b
+  high_flat : (b : Bool) → is b (high_constant (look D l h)) ≡ true → h ≡ flat D (arity (rule_of s l)) b
   high_flat b e =
-      flat_kind D s h b ha (high_is b (kind l) (kind h) (D.negates && same l (flip h)) e) ∙ ap (λ (n : ℕ). flat D n b) (sym level)
+      flat_constant D s h b ha (high_is b (constant_value l) (constant_value h) (D.negates && same l (flip h)) e) ∙ ap (λ (n : ℕ). flat D n b) (sym level)
 
-  opposites : D.negates ≡ true → Opposed (kind l) (kind h) (D.negates && same l (flip h)) → h ≡ flip l
+  opposites : D.negates ≡ true → Opposed (constant_value l) (constant_value h) (D.negates && same l (flip h)) → h ≡ flip l
   opposites neg (inl e) = sym (flip_flip h) ∙ ap flip (sym (same_eq l (flip h) (and_right D.negates (same l (flip h)) e)))
   opposites neg (inr x) =
-      flat_kind D s h (not x.0) ha x.1.1
+      flat_constant D s h (not x.0) ha x.1.1
       ∙ ap (λ (n : ℕ). flat D n (not x.0)) (sym level)
       ∙ sym (flat_flip D (arity (rule_of s l)) x.0 neg)
-      ∙ ap flip (sym (flat_kind D s l x.0 la x.1.0))
+      ∙ ap flip (sym (flat_constant D s l x.0 la x.1.0))
 
   fits_halves : (c : Letter) → has_letter D c ≡ true → fits D c (look D l h) ≡ true → Lettered D s l h (put c (source c l h))
   fits_halves U o e = let z : ◌≡◌ {A = ℕ} 0 1 = cc in absurd (omega arith)
   fits_halves X o e =
       let q = and_right D.negates (opposed (look D l h)) e in
-      record { c = X; has = o; is_put = refl; low_is = refl; high_is = opposites (law.has_x o) (opposed_is (kind l) (kind h) (D.negates && same l (flip h)) q) }
+      record { c = X; has = o; is_put = refl; low_is = refl; high_is = opposites (law.has_x o) (opposed_is (constant_value l) (constant_value h) (D.negates && same l (flip h)) q) }
   fits_halves C00 o e = record { c = C00; has = o; is_put = refl; low_is = low_flat false e; high_is = refl }
   fits_halves C01 o e = record { c = C01; has = o; is_put = refl; low_is = low_flat true e; high_is = refl }
   fits_halves C10 o e = record { c = C10; has = o; is_put = refl; low_is = refl; high_is = high_flat false e }

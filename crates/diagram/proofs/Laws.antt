@@ -1,14 +1,12 @@
 -- The laws of rules, letters and signs, and of the tests.
-use Rattle.std.proofs.Common.{◌≡◌, ℕ, zero, suc, Bool, true, false, cond, not, ◌&&◌, T, eqb, List, [], ◌∷◌, replicate, sym, refl, ap, ◌∙◌, subst, ap₂, eqb→eq}
+use Rattle.std.proofs.Common.{◌≡◌, ℕ, zero, suc, Bool, true, false, cond, not, ◌&&◌, T, eqb, List, [], ◌∷◌, replicate, Some, None, Option, sym, refl, ap, ◌∙◌, subst, ap₂, eqb→eq}
 use mathlib.Core.Bool.{beq}
 use Rattle.diagram.specs.Rules.{Rule, constant, ◌⋆◌, arity, negate, full}
 use Rattle.diagram.specs.declared.letters.Letter.{Letter}
 use Rattle.diagram.specs.declared.letters.Letter.TheVariants.{U, X, C00, C01, C10, C11}
 use Rattle.diagram.specs.Letters.{on, partner, letter_code, letter_of}
 use Rattle.diagram.specs.Edges.{Target, terminal, diamond, Edge, edge, Diamond, pair, flip, turned, put, sign, spell, foot, sense, same_word, same_target, same, same_diamond}
-use Rattle.diagram.specs.declared.letters.Kind.{Kind}
-use Rattle.diagram.specs.declared.letters.Kind.TheVariants.{AllZero, AllOne, Mixed}
-use Rattle.diagram.specs.Dialects.{all_u, constantly, flips, kind_at, kind, look_at, look, turn}
+use Rattle.diagram.specs.Dialects.{all_u, flips, constant_at, constant_value, look_at, look, turn}
 use Rattle.diagram.specs.declared.meanings.Meaning.{Meaning}
 use Rattle.diagram.specs.Making.{flat}
 use lib.Dec.{eqb_refl}
@@ -205,39 +203,39 @@ same_flip a b = ap (λ x. x && (same_word a.word b.word && same_target a.target 
 
 -- Looks of flipped edges --
 
-abbrev pub turn_kind : Kind → Kind
-turn_kind AllZero = AllOne
-turn_kind AllOne = AllZero
-turn_kind Mixed = Mixed
+abbrev pub turn_constant : Option Bool → Option Bool
+turn_constant (Some false) = Some true
+turn_constant (Some true) = Some false
+turn_constant None = None
 
-constantly_flips : (n b : Bool) → constantly (flips (not n) b) ≡ turn_kind (constantly (flips n b))
-constantly_flips true true = refl
-constantly_flips true false = refl
-constantly_flips false true = refl
-constantly_flips false false = refl
+some_flips : (n b : Bool) → Some (flips (not n) b) ≡ turn_constant (Some (flips n b))
+some_flips true true = refl
+some_flips true false = refl
+some_flips false true = refl
+some_flips false false = refl
 
-kind_flip_at : (a n : Bool) (t : Target) → kind_at a (not n) t ≡ turn_kind (kind_at a n t)
-kind_flip_at true n (terminal b) = constantly_flips n b
-kind_flip_at true n (diamond k) = refl
-kind_flip_at false n t = refl
+constant_flip_at : (a n : Bool) (t : Target) → constant_at a (not n) t ≡ turn_constant (constant_at a n t)
+constant_flip_at true n (terminal b) = some_flips n b
+constant_flip_at true n (diamond k) = refl
+constant_flip_at false n t = refl
 
-pub kind_flip : (e : Edge) → kind (flip e) ≡ turn_kind (kind e)
-kind_flip e = kind_flip_at (all_u e.word) e.negated e.target
+pub constant_flip : (e : Edge) → constant_value (flip e) ≡ turn_constant (constant_value e)
+constant_flip e = constant_flip_at (all_u e.word) e.negated e.target
 
-look_turn : (j k : Kind) (o : Bool) → look_at (turn_kind j) (turn_kind k) o ≡ turn (look_at j k o)
-look_turn AllZero AllZero o = refl
-look_turn AllZero AllOne o = refl
-look_turn AllZero Mixed o = refl
-look_turn AllOne AllZero o = refl
-look_turn AllOne AllOne o = refl
-look_turn AllOne Mixed o = refl
-look_turn Mixed AllZero o = refl
-look_turn Mixed AllOne o = refl
-look_turn Mixed Mixed true = refl
-look_turn Mixed Mixed false = refl
+look_turn : (j k : Option Bool) (o : Bool) → look_at (turn_constant j) (turn_constant k) o ≡ turn (look_at j k o)
+look_turn (Some false) (Some false) o = refl
+look_turn (Some false) (Some true) o = refl
+look_turn (Some false) None o = refl
+look_turn (Some true) (Some false) o = refl
+look_turn (Some true) (Some true) o = refl
+look_turn (Some true) None o = refl
+look_turn None (Some false) o = refl
+look_turn None (Some true) o = refl
+look_turn None None true = refl
+look_turn None None false = refl
 
 pub look_flip : (D : Meaning) (l h : Edge) → look D (flip l) (flip h) ≡ turn (look D l h)
 look_flip D l h =
-    ap₂ (λ j k. look_at j k (D.negates && same (flip l) (flip (flip h)))) (kind_flip l) (kind_flip h)
-    ∙ ap (λ (o : Bool). look_at (turn_kind (kind l)) (turn_kind (kind h)) (D.negates && o)) (same_flip l (flip h))
-    ∙ look_turn (kind l) (kind h) (D.negates && same l (flip h))
+    ap₂ (λ j k. look_at j k (D.negates && same (flip l) (flip (flip h)))) (constant_flip l) (constant_flip h)
+    ∙ ap (λ (o : Bool). look_at (turn_constant (constant_value l)) (turn_constant (constant_value h)) (D.negates && o)) (same_flip l (flip h))
+    ∙ look_turn (constant_value l) (constant_value h) (D.negates && same l (flip h))

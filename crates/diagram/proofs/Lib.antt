@@ -23,6 +23,7 @@ pub mod Bridge
 pub mod Eights
 pub mod Recorded
 pub mod Placed
+pub mod Octal
 pub mod Spelt
 pub mod Made
 pub mod Recording

@@ -31,17 +31,17 @@ spells_less n x h =
     subst (λ (m : ℕ). m < 8 ^ n) p.0 (subst (λ (k : ℕ). numeral (letters_of n x) < 8 ^ k) p.1 q)
 
 -- a letter set on an edge that spells and has room
-pub with_letter_there : (c : Letter) (e : EdgeRecord) → spelled_edge e ≡ true → e.length < 20 → with_letter c e ≡ Some (edge_record (put c (edge_of e)))
+pub with_letter_there : (c : Letter) (e : EdgeRecord) → spelled_edge e ≡ true → e.word.length < 20 → with_letter c e ≡ Some (edge_record (put c (edge_of e)))
 with_letter_there c e h l =
-    let w = words_written e.length e.word (spells_read e.length e.word h) in
-    let a = lt-ltb e.length 20 l in
-    let b = lt-ltb e.word (8 ^ e.length) (spells_less e.length e.word h) in
+    let w = words_written e.word.length e.word.digits (spells_read e.word.length e.word.digits h) in
+    let a = lt-ltb e.word.length 20 l in
+    let b = lt-ltb e.word.digits (8 ^ e.word.length) (spells_less e.word.length e.word.digits h) in
     let d = turned e.negated c in
     let t = target_back e.target in
-    let n : e.length + 1 ≡ suc (length (letters_of e.length e.word)) = let m = w.1 in omega arith in
-    let x : letter_code d * 8 ^ e.length + e.word ≡ letter_code d * 8 ^ length (letters_of e.length e.word) + numeral (letters_of e.length e.word) =
+    let n : e.word.length + 1 ≡ suc (length (letters_of e.word.length e.word.digits)) = let m = w.1 in omega arith in
+    let x : letter_code d * 8 ^ e.word.length + e.word.digits ≡ letter_code d * 8 ^ length (letters_of e.word.length e.word.digits) + numeral (letters_of e.word.length e.word.digits) =
     ap₂ (λ (k v : ℕ). letter_code d * 8 ^ k + v) (sym w.1) (sym w.0) in
-    let z : edge_made e.negated (e.length + 1) (letter_code d * 8 ^ e.length + e.word) e.target ≡ edge_record (put c (edge_of e)) =
+    let z : edge_made e.negated (e.word.length + 1) (letter_code d * 8 ^ e.word.length + e.word.digits) e.target ≡ edge_record (put c (edge_of e)) =
     λ i. edge_made e.negated (n i) (x i) (sym t i) in
     simp (a, b) (ap Some z)
 

@@ -1,5 +1,6 @@
 -- Diamonds in a list, the oldest first: what each means, by those before it.
-use Rattle.std.proofs.Common.{◌≡◌, ℕ, zero, suc, ◌+◌, ◌-◌, ◌%◌, ◌^◌, ◌<◌, ◌≤◌, Bool, true, false, cond, eqb, List, [], ◌∷◌, ◌++◌, reverse, length, get_or, take, Some, sym, refl, ap, ◌∙◌, subst, arith, length-take-le, take_all}
+use Rattle.std.proofs.Common.{◌≡◌, ℕ, zero, suc, ◌+◌, ◌-◌, ◌%◌, ◌^◌, ◌<◌, ◌≤◌, Bool, true, false, cond, eqb, List, [], ◌∷◌, ◌++◌, reverse, length, get_or, take, Option, Some, None, sym, refl, ap, ◌∙◌, subst, arith, length-take-le, take_all}
+use Rattle.std.specs.Option.{MatchOption}
 use mathlib.Core.List.{reverse-cons}
 use lib.ListN.{length-reverse}
 use Rattle.std.proofs.lemmas.List.{reverse-reverse, reverse-append, get_or_append_left, get_or_push, take-append-le, take_more}
@@ -8,7 +9,7 @@ use Rattle.diagram.specs.declared.edges.Edge.{Edge as EdgeRecord}
 use Rattle.diagram.specs.declared.edges.Diamond.{Diamond as DiamondRecord}
 use Rattle.diagram.specs.declared.edges.Target.TheVariants.{Zero}
 use Rattle.diagram.specs.Rules.{◌⋆◌, arity}
-use Rattle.diagram.specs.Words.{letters_of}
+use Rattle.diagram.specs.Words.{letters_of, word}
 use Rattle.diagram.specs.Edges.{Store, diamond_rule, rule_of, foot}
 use Rattle.diagram.specs.Records.{target_of, edge_of, store_of, same_diamond_record, number_behind, number_of}
 use Rattle.diagram.proofs.Laws.{eqb_eq}
@@ -18,7 +19,7 @@ use Rattle.diagram.proofs.Recorded.{store_push, store_length}
 
 -- the element that reads default to
 abbrev pub no_edge : EdgeRecord
-no_edge = record { negated = false; length = 0; word = 0; target = Zero }
+no_edge = record { negated = false; word = word 0 0; target = Zero }
 
 abbrev pub no_diamond : DiamondRecord
 no_diamond = record { low = no_edge; high = no_edge }
@@ -65,12 +66,12 @@ length_letters zero x = refl
 length_letters (suc n) x = ap suc (length_letters n (x % 8 ^ n))
 
 -- the arity of an edge is its length and its target's arity
-pub arity_record : (s : Store) (e : EdgeRecord) → arity (rule_of s (edge_of e)) ≡ e.length + arity (foot (diamond_rule s) (target_of e.target))
-arity_record s e = arity_edge s (edge_of e) ∙ ap (λ (n : ℕ). n + arity (foot (diamond_rule s) (target_of e.target))) (length_letters e.length e.word)
+pub arity_record : (s : Store) (e : EdgeRecord) → arity (rule_of s (edge_of e)) ≡ e.word.length + arity (foot (diamond_rule s) (target_of e.target))
+arity_record s e = arity_edge s (edge_of e) ∙ ap (λ (n : ℕ). n + arity (foot (diamond_rule s) (target_of e.target))) (length_letters e.word.length e.word.digits)
 
 pub arity_step : (ds : List DiamondRecord) (k : ℕ) (d : DiamondRecord) → k < length ds →
     arity (diamond_rule (store_of ds) k)
-    ≡ 1 + ((get_or ds k d).low.length + arity (foot (diamond_rule (store_of (take k ds))) (target_of (get_or ds k d).low.target)))
+    ≡ 1 + ((get_or ds k d).low.word.length + arity (foot (diamond_rule (store_of (take k ds))) (target_of (get_or ds k d).low.target)))
 arity_step ds k d h =
     let p = ap arity (rule_step ds k d h) in
     let q = arity_record (store_of (take k ds)) (get_or ds k d).low in
@@ -103,5 +104,29 @@ number_step ds k d e h l b p =
     subst (λ (n : ℕ). number_of (take n ds) d ≡ cond b (Some (k - 1)) (number_of (take (k - 1) ds) d)) q
     (number_more ds (k - 1) d e (omega arith) ∙ ap (λ (c : Bool). cond c (Some (k - 1)) (number_of (take (k - 1) ds) d)) p)
 
-pub number_all : (ds : List DiamondRecord) (d : DiamondRecord) → number_of ds d ≡ number_of (take (length ds) ds) d
+number_all : (ds : List DiamondRecord) (d : DiamondRecord) → number_of ds d ≡ number_of (take (length ds) ds) d
 number_all ds d = ap (λ (xs : List DiamondRecord). number_of xs d) (sym (take_all (length ds) ds (omega arith)))
+
+-- from k on nothing is the diamond
+abbrev pub Absent : List DiamondRecord → DiamondRecord → ℕ → Type 0
+Absent ds d k = (i : ℕ) → k ≤ i → i < length ds → same_diamond_record (get_or ds i no_diamond) d ≡ false
+
+number_before : (ds : List DiamondRecord) (d : DiamondRecord) (k n : ℕ) → k + n ≤ length ds → Absent ds d k →
+    number_of (take (k + n) ds) d ≡ number_of (take k ds) d
+number_before ds d k zero h a = ap (λ (j : ℕ). number_of (take j ds) d) (omega arith)
+number_before ds d k (suc n) h a =
+    let p = number_step ds (k + suc n) d no_diamond (omega arith) h false (a (k + suc n - 1) (omega arith) (omega arith)) in
+    let q : k + suc n - 1 ≡ k + n = omega arith in
+    p ∙ ap (λ (j : ℕ). number_of (take j ds) d) q ∙ number_before ds d k n (omega arith) a
+
+number_from : (ds : List DiamondRecord) (d : DiamondRecord) (k : ℕ) → k ≤ length ds → Absent ds d k → number_of ds d ≡ number_of (take k ds) d
+number_from ds d k h a =
+    let q : length ds ≡ k + (length ds - k) = omega arith in
+    number_all ds d ∙ ap (λ (j : ℕ). number_of (take j ds) d) q ∙ number_before ds d k (length ds - k) (omega arith) a
+
+-- the last place where the diamond is, if there is one, is its number
+pub number_last : (ds : List DiamondRecord) (d : DiamondRecord) (r : Option ℕ) →
+    MatchOption r (Absent ds d 0) (λ k. (k < length ds) × (same_diamond_record (get_or ds k no_diamond) d ≡ true) × Absent ds d (k + 1)) → r ≡ number_of ds d
+number_last ds d None a = sym (number_from ds d 0 (omega arith) a)
+number_last ds d (Some k) (h, e, a) =
+    sym (number_from ds d (k + 1) (omega arith) a ∙ number_more ds k d no_diamond h ∙ ap (λ (b : Bool). cond b (Some k) (number_of (take k ds) d)) e)

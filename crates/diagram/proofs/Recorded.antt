@@ -14,12 +14,12 @@ use Rattle.diagram.specs.declared.edges.Target.TheVariants.{Zero, One, Diamond a
 use Rattle.diagram.specs.declared.edges.Edge.{Edge as EdgeRecord}
 use Rattle.diagram.specs.declared.edges.Diamond.{Diamond as DiamondRecord}
 use Rattle.diagram.specs.Letters.{letter_code}
-use Rattle.diagram.specs.Words.{numeral, letters_of, Spells, spells}
+use Rattle.diagram.specs.Words.{numeral, letters_of, Spells, spells, word}
 use Rattle.diagram.specs.Edges.{Target, terminal, diamond, Edge, edge, Diamond, pair, Store, turned, put, same, same_word, same_target}
-use Rattle.diagram.specs.Dialects.{all_u, kind_at, kind, look_at, look, answer_at, same_answer}
+use Rattle.diagram.specs.Dialects.{all_u, constant_at, constant_value, look_at, look, answer_at, same_answer}
 use Rattle.diagram.specs.Making.{flat, source, written, choose, low_of, high_of, upright}
 use Rattle.diagram.specs.Acceptance.{inside, gives}
-use Rattle.diagram.specs.Records.{target_of, edge_of, diamond_of, store_of, target_record, edge_record, diamond_record, diamonds_of, stands_in, spelled_edge, spelled_diamonds, same_target_record, same_record, other_mark, kind_to, kind_of, letter_for, constant_record, halves_on, letter_chosen}
+use Rattle.diagram.specs.Records.{target_of, edge_of, diamond_of, store_of, target_record, edge_record, diamond_record, diamonds_of, stands_in, spelled_edge, spelled_diamonds, same_target_record, same_record, other_mark, constant_to, constant_of, letter_for, constant_record, halves_on, letter_chosen}
 use Rattle.diagram.proofs.Laws.{letter_eq, beq_refl, beq_eq, same_refl, same_eq}
 use Rattle.diagram.proofs.Spelling.{words_read, words_written}
 
@@ -54,11 +54,11 @@ target_there (terminal true) = refl
 target_there (diamond k) = refl
 
 abbrev pub edge_made : Bool → ℕ → ℕ → TargetRecord → EdgeRecord
-edge_made n l w t = record { negated = n; length = l; word = w; target = t }
+edge_made n l x t = record { negated = n; word = word l x; target = t }
 
 pub edge_back : (e : EdgeRecord) → spelled_edge e ≡ true → edge_record (edge_of e) ≡ e
 edge_back e h =
-    let w = words_written e.length e.word (spells_read e.length e.word h) in
+    let w = words_written e.word.length e.word.digits (spells_read e.word.length e.word.digits h) in
     let p = w.1 in
     let q = w.0 in
     let t = target_back e.target in
@@ -144,16 +144,16 @@ same_target_record_eq (DiamondNumber j) (DiamondNumber k) e = ap DiamondNumber (
 
 pub same_record_refl : (e : EdgeRecord) → same_record e e ≡ true
 same_record_refl e =
-    and_from _ _ (beq_refl e.negated) (and_from _ _ (eq-eqb e.length e.length refl) (and_from _ _ (eq-eqb e.word e.word refl) (same_target_record_refl e.target)))
+    and_from _ _ (beq_refl e.negated) (and_from _ _ (eq-eqb e.word.length e.word.length refl) (and_from _ _ (eq-eqb e.word.digits e.word.digits refl) (same_target_record_refl e.target)))
 
 pub same_record_eq : (a b : EdgeRecord) → same_record a b ≡ true → a ≡ b
 same_record_eq a b h =
-    let p = and_parts (beq a.negated b.negated) (eqb a.length b.length && (eqb a.word b.word && same_target_record a.target b.target)) h in
-    let q = and_parts (eqb a.length b.length) (eqb a.word b.word && same_target_record a.target b.target) p.1 in
-    let r = and_parts (eqb a.word b.word) (same_target_record a.target b.target) q.1 in
+    let p = and_parts (beq a.negated b.negated) (eqb a.word.length b.word.length && (eqb a.word.digits b.word.digits && same_target_record a.target b.target)) h in
+    let q = and_parts (eqb a.word.length b.word.length) (eqb a.word.digits b.word.digits && same_target_record a.target b.target) p.1 in
+    let r = and_parts (eqb a.word.digits b.word.digits) (same_target_record a.target b.target) q.1 in
     let n = beq_eq a.negated b.negated p.0 in
-    let l = eqb-true a.length b.length q.0 in
-    let w = eqb-true a.word b.word r.0 in
+    let l = eqb-true a.word.length b.word.length q.0 in
+    let w = eqb-true a.word.digits b.word.digits r.0 in
     let t = same_target_record_eq a.target b.target r.1 in
     λ i. edge_made (n i) (l i) (w i) (t i)
 
@@ -194,14 +194,14 @@ us_alike n x h =
     (λ e. subst (λ (y : ℕ). all_u (letters_of n y) ≡ true) (sym (eqb-true x 0 e)) (zero_us n))
     (λ e. eq-eqb x 0 (sym (words_written n x (spells_read n x h)).0 ∙ us_zero (letters_of n x) e))
 
-kind_to_at : (b n : Bool) (t : TargetRecord) → kind_to b n t ≡ kind_at b n (target_of t)
-kind_to_at true n Zero = refl
-kind_to_at true n One = refl
-kind_to_at true n (DiamondNumber k) = refl
-kind_to_at false n t = refl
+constant_to_at : (b n : Bool) (t : TargetRecord) → constant_to b n t ≡ constant_at b n (target_of t)
+constant_to_at true n Zero = refl
+constant_to_at true n One = refl
+constant_to_at true n (DiamondNumber k) = refl
+constant_to_at false n t = refl
 
-pub kind_alike : (e : EdgeRecord) → spelled_edge e ≡ true → kind_of e ≡ kind (edge_of e)
-kind_alike e h = kind_to_at (eqb e.word 0) e.negated e.target ∙ ap (λ (b : Bool). kind_at b e.negated (target_of e.target)) (us_alike e.length e.word h)
+pub constant_alike : (e : EdgeRecord) → spelled_edge e ≡ true → constant_of e ≡ constant_value (edge_of e)
+constant_alike e h = constant_to_at (eqb e.word.digits 0) e.negated e.target ∙ ap (λ (b : Bool). constant_at b e.negated (target_of e.target)) (us_alike e.word.length e.word.digits h)
 
 -- the letter for two halves that spell: u for equal ones, else the answer at their look
 pub letter : Meaning → Edge → Edge → Option Letter
@@ -212,8 +212,8 @@ unfolding letter
 letter_alike D l h hl hh =
     let p = same_alike l h hl hh in
     let q = same_alike l (other_mark h) hl hh in
-    let a = kind_alike l hl in
-    let b = kind_alike h hh in
+    let a = constant_alike l hl in
+    let b = constant_alike h hh in
     ap₂ (λ (s : Bool) (k : Option Letter). cond s (Some U) k) p (ap (answer_at D) (λ i. look_at (a i) (b i) (D.negates && q i)))
 
 -- Constant edges, and the halves that a letter stands for --

@@ -1,5 +1,5 @@
 -- The test of a dialect, read and met.
-use Rattle.std.proofs.Common.{◌≡◌, ℕ, Bool, true, false, cond, not, ◌&&◌, Some, None, Option, sym, refl, ap, subst, arith}
+use Rattle.std.proofs.Common.{◌≡◌, ℕ, Bool, true, false, cond, not, ◌&&◌, ◌↔◌, List, [], ◌∷◌, slice_index_or, Some, None, Option, sym, refl, ap, subst, arith}
 use Rattle.diagram.specs.declared.letters.Letter.{Letter}
 use Rattle.diagram.specs.declared.letters.Letter.TheVariants.{U, X, C00, C01, C10, C11}
 use Rattle.diagram.specs.Letters.{letter_code}
@@ -8,7 +8,9 @@ use Rattle.diagram.specs.declared.letters.Look.TheVariants.{ZeroOne, OneZero, Ze
 use Rattle.diagram.specs.Dialects.{fits, turn, Lawful, partners, every_look, every_letter, same_answer, right_answer, right_look, lawful, has_letter, answer_at}
 use Rattle.diagram.specs.declared.meanings.Meaning.{Meaning}
 use Rattle.diagram.specs.Theorems.{LawfulTested}
+use Rattle.std.specs.List.{AllPass}
 use Rattle.diagram.proofs.Laws.{and_left, and_right, both, eqb_same, letter_eq}
+use Rattle.diagram.proofs.Recorded.{alike}
 
 look_read : (p : Look → Bool) → every_look p ≡ true → (k : Look) → p k ≡ true
 look_read p e ZeroOne = and_left (p ZeroOne) _ e
@@ -62,6 +64,33 @@ look_met p h =
 
 letter_met : (p : Letter → Bool) → ((c : Letter) → p c ≡ true) → every_letter p ≡ true
 letter_met p h = both (p U) _ (h U) (both (p X) _ (h X) (both (p C00) _ (h C00) (both (p C01) _ (h C01) (both (p C10) _ (h C10) (h C11)))))
+
+-- a test of the list of all looks is one of every look
+pub looks_tested : (p : Look → Bool) (b : Bool) (ks : List Look) → ks ≡ ZeroOne ∷ OneZero ∷ ZeroOther ∷ OneOther ∷ OtherZero ∷ OtherOne ∷ Opposite ∷ Plain ∷ [] →
+    (b ≡ true ↔ AllPass p ks) → b ≡ every_look p
+looks_tested p b ks q h = alike b (every_look p) (λ e. look_met p (met (subst (AllPass p) q (h.0 e)))) (λ e. h.1 (λ k d l. look_read p e (slice_index_or ks k d)))
+  where
+    met : AllPass p (ZeroOne ∷ OneZero ∷ ZeroOther ∷ OneOther ∷ OtherZero ∷ OtherOne ∷ Opposite ∷ Plain ∷ []) → (k : Look) → p k ≡ true
+    met t ZeroOne = t 0 Plain (omega arith)
+    met t OneZero = t 1 Plain (omega arith)
+    met t ZeroOther = t 2 Plain (omega arith)
+    met t OneOther = t 3 Plain (omega arith)
+    met t OtherZero = t 4 Plain (omega arith)
+    met t OtherOne = t 5 Plain (omega arith)
+    met t Opposite = t 6 Plain (omega arith)
+    met t Plain = t 7 Plain (omega arith)
+
+-- a test of the list of all letters is one of every letter
+pub letters_tested : (p : Letter → Bool) (b : Bool) (cs : List Letter) → cs ≡ U ∷ X ∷ C00 ∷ C01 ∷ C10 ∷ C11 ∷ [] → (b ≡ true ↔ AllPass p cs) → b ≡ every_letter p
+letters_tested p b cs q h = alike b (every_letter p) (λ e. letter_met p (met (subst (AllPass p) q (h.0 e)))) (λ e. h.1 (λ k d l. letter_read p e (slice_index_or cs k d)))
+  where
+    met : AllPass p (U ∷ X ∷ C00 ∷ C01 ∷ C10 ∷ C11 ∷ []) → (c : Letter) → p c ≡ true
+    met t U = t 0 U (omega arith)
+    met t X = t 1 U (omega arith)
+    met t C00 = t 2 U (omega arith)
+    met t C01 = t 3 U (omega arith)
+    met t C10 = t 4 U (omega arith)
+    met t C11 = t 5 U (omega arith)
 
 same_answer_refl : (o : Option Letter) → same_answer o o ≡ true
 same_answer_refl None = refl

@@ -5,7 +5,7 @@ use Rattle.diagram.specs.Rules.{Rule, constant, ◌⋆◌, arity}
 use Rattle.diagram.specs.declared.letters.Letter.{Letter}
 use Rattle.diagram.specs.declared.letters.Letter.TheVariants.{U, X, C00, C01, C10, C11}
 use Rattle.diagram.specs.Edges.{Target, terminal, diamond, Edge, edge, Diamond, pair, Store, flip, put, same_word, same_target, same, same_diamond, rule_of, diamond_at}
-use Rattle.diagram.specs.Dialects.{all_u, kind_at, kind, look_at, look, Lawful, answer_at}
+use Rattle.diagram.specs.Dialects.{all_u, constant_at, constant_value, look_at, look, Lawful, answer_at}
 use Rattle.diagram.specs.declared.meanings.Meaning.{Meaning}
 use Rattle.diagram.specs.Making.{flat, source, written, choose, find, diamond_edge, Made, seat, add, flipped, make_by, make, insert, upright, low_upright, high_upright, low_half, high_half, low_of, high_of}
 use Rattle.diagram.specs.Acceptance.{Within, Accepted, Normal}
@@ -137,15 +137,15 @@ module _ (r : List ℕ) where
   pub same_moved : (a b : Edge) → Reached r a.target → Reached r b.target → same (moved r a) (moved r b) ≡ same a b
   same_moved a b p q = ap (λ (x : Bool). beq a.negated b.negated && (same_word a.word b.word && x)) (same_target_moved a.target b.target p q)
 
-  kind_moved_at : (a n : Bool) (t : Target) → kind_at a n (retarget r t) ≡ kind_at a n t
-  kind_moved_at true n (terminal b) = refl
-  kind_moved_at true n (diamond k) = refl
-  kind_moved_at false n t = refl
+  constant_moved_at : (a n : Bool) (t : Target) → constant_at a n (retarget r t) ≡ constant_at a n t
+  constant_moved_at true n (terminal b) = refl
+  constant_moved_at true n (diamond k) = refl
+  constant_moved_at false n t = refl
 
   look_moved : (D : Meaning) (l h : Edge) → Reached r l.target → Reached r h.target → look D (moved r l) (moved r h) ≡ look D l h
   look_moved D l h p q =
-      ap₂ (λ j k. look_at j k (D.negates && same (moved r l) (moved r (flip h)))) (kind_moved_at (all_u l.word) l.negated l.target) (kind_moved_at (all_u h.word) h.negated h.target)
-      ∙ ap (λ (o : Bool). look_at (kind l) (kind h) (D.negates && o)) (same_moved l (flip h) p q)
+      ap₂ (λ j k. look_at j k (D.negates && same (moved r l) (moved r (flip h)))) (constant_moved_at (all_u l.word) l.negated l.target) (constant_moved_at (all_u h.word) h.negated h.target)
+      ∙ ap (λ (o : Bool). look_at (constant_value l) (constant_value h) (D.negates && o)) (same_moved l (flip h) p q)
 
   abbrev moved? : Option Edge → Option Edge
   moved? None = None

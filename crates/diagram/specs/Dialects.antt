@@ -4,8 +4,6 @@ use Rattle.diagram.specs.declared.letters.Letter.{Letter}
 use Rattle.diagram.specs.declared.letters.Letter.TheVariants.{U, X, C00, C01, C10, C11}
 use Rattle.diagram.specs.declared.letters.Look.{Look}
 use Rattle.diagram.specs.declared.letters.Look.TheVariants.{ZeroOne, OneZero, ZeroOther, OneOther, OtherZero, OtherOne, Opposite, Plain}
-use Rattle.diagram.specs.declared.letters.Kind.{Kind}
-use Rattle.diagram.specs.declared.letters.Kind.TheVariants.{AllZero, AllOne, Mixed}
 use Rattle.diagram.specs.declared.meanings.Meaning.{Meaning}
 use Rattle.diagram.specs.Letters.{partner, letter_code}
 use Rattle.diagram.specs.Edges.{Target, terminal, diamond, Edge, flip, same}
@@ -37,66 +35,61 @@ abbrev pub all_u : List Letter → Bool
 all_u [] = true
 all_u (c ∷ w) = letter_code c == 0 && all_u w
 
--- the constant b
-abbrev pub constantly : Bool → Kind
-constantly true = AllOne
-constantly false = AllZero
-
 -- the value b, reversed under a mark
 abbrev pub flips : Bool → Bool → Bool
 flips true b = not b
 flips false b = b
 
--- what an edge is seen to be, by whether its word is of u alone, its mark and its target
-abbrev pub kind_at : Bool → Bool → Target → Kind
-kind_at true n (terminal b) = constantly (flips n b)
-kind_at true n (diamond k) = Mixed
-kind_at false n t = Mixed
+-- the value that an edge is seen to have everywhere, if any, by whether its word is of u alone, its mark and its target
+abbrev pub constant_at : Bool → Bool → Target → Option Bool
+constant_at true n (terminal b) = Some (flips n b)
+constant_at true n (diamond k) = None
+constant_at false n t = None
 
 -- a half is seen to be constant where its word is of u alone and its target is a terminal
-abbrev pub kind : Edge → Kind
-kind e = kind_at (all_u e.word) e.negated e.target
+abbrev pub constant_value : Edge → Option Bool
+constant_value e = constant_at (all_u e.word) e.negated e.target
 
--- the look of a low and a high half that differ, o being whether they are opposite
-abbrev pub look_at : Kind → Kind → Bool → Look
-look_at AllZero AllZero o = Plain
-look_at AllZero AllOne o = ZeroOne
-look_at AllZero Mixed o = ZeroOther
-look_at AllOne AllZero o = OneZero
-look_at AllOne AllOne o = Plain
-look_at AllOne Mixed o = OneOther
-look_at Mixed AllZero o = OtherZero
-look_at Mixed AllOne o = OtherOne
-look_at Mixed Mixed true = Opposite
-look_at Mixed Mixed false = Plain
+-- the look of a low and a high half that differ, by the values of those that are constant; o is whether they are opposite
+abbrev pub look_at : Option Bool → Option Bool → Bool → Look
+look_at (Some false) (Some false) o = Plain
+look_at (Some false) (Some true) o = ZeroOne
+look_at (Some false) None o = ZeroOther
+look_at (Some true) (Some false) o = OneZero
+look_at (Some true) (Some true) o = Plain
+look_at (Some true) None o = OneOther
+look_at None (Some false) o = OtherZero
+look_at None (Some true) o = OtherOne
+look_at None None true = Opposite
+look_at None None false = Plain
 
 -- halves are opposite where the dialect negates and they differ in the mark alone
 abbrev pub look : Meaning → Edge → Edge → Look
-look D l h = look_at (kind l) (kind h) (D.negates && same l (flip h))
+look D l h = look_at (constant_value l) (constant_value h) (D.negates && same l (flip h))
 
 -- Letters that fit --
 
--- what the low half is at a look, and the high half
-abbrev pub low_kind : Look → Kind
-low_kind ZeroOne = AllZero
-low_kind OneZero = AllOne
-low_kind ZeroOther = AllZero
-low_kind OneOther = AllOne
-low_kind OtherZero = Mixed
-low_kind OtherOne = Mixed
-low_kind Opposite = Mixed
-low_kind Plain = Mixed
+-- the value of the low half at a look, where it is constant
+abbrev pub low_constant : Look → Option Bool
+low_constant ZeroOne = Some false
+low_constant OneZero = Some true
+low_constant ZeroOther = Some false
+low_constant OneOther = Some true
+low_constant OtherZero = None
+low_constant OtherOne = None
+low_constant Opposite = None
+low_constant Plain = None
 
--- what the high half is at a look
-abbrev pub high_kind : Look → Kind
-high_kind ZeroOne = AllOne
-high_kind OneZero = AllZero
-high_kind ZeroOther = Mixed
-high_kind OneOther = Mixed
-high_kind OtherZero = AllZero
-high_kind OtherOne = AllOne
-high_kind Opposite = Mixed
-high_kind Plain = Mixed
+-- the value of the high half at a look, where it is constant
+abbrev pub high_constant : Look → Option Bool
+high_constant ZeroOne = Some true
+high_constant OneZero = Some false
+high_constant ZeroOther = None
+high_constant OneOther = None
+high_constant OtherZero = Some false
+high_constant OtherOne = Some true
+high_constant Opposite = None
+high_constant Plain = None
 
 -- the halves are each other's negation: opposite others, and the two constants
 abbrev pub opposed : Look → Bool
@@ -110,22 +103,22 @@ opposed Opposite = true
 opposed Plain = false
 
 -- the half is the constant b
-abbrev pub is : Bool → Kind → Bool
-is true AllZero = false
-is true AllOne = true
-is true Mixed = false
-is false AllZero = true
-is false AllOne = false
-is false Mixed = false
+abbrev pub is : Bool → Option Bool → Bool
+is true (Some false) = false
+is true (Some true) = true
+is true None = false
+is false (Some false) = true
+is false (Some true) = false
+is false None = false
 
 -- u fits no look; x fits opposed halves where the dialect negates; c00 and c01 fit a low half 0 or 1, c10 and c11 a high half 0 or 1
 abbrev pub fits : Meaning → Letter → Look → Bool
 fits D U k = false
 fits D X k = D.negates && opposed k
-fits D C00 k = is false (low_kind k)
-fits D C01 k = is true (low_kind k)
-fits D C10 k = is false (high_kind k)
-fits D C11 k = is true (high_kind k)
+fits D C00 k = is false (low_constant k)
+fits D C01 k = is true (low_constant k)
+fits D C10 k = is false (high_constant k)
+fits D C11 k = is true (high_constant k)
 
 -- the look of both halves negated
 abbrev pub turn : Look → Look

@@ -2,6 +2,7 @@
 use Rattle.std.specs.Prelude.{ℕ, ◌+◌, Bool, cond, ◌&&◌, List, [], ◌∷◌, ◌++◌, codes, decimal, nat_le}
 use Rattle.diagram.specs.declared.letters.Letter.{Letter}
 use Rattle.diagram.specs.declared.edges.Edge.{Edge}
+use Rattle.diagram.specs.declared.edges.Word.{Word}
 use Rattle.diagram.specs.declared.edges.Target.{Target}
 use Rattle.diagram.specs.declared.edges.Target.TheVariants.{Zero, One, Diamond}
 use Rattle.diagram.specs.declared.refusals.Refusal.{Refusal}
@@ -23,9 +24,9 @@ abbrev pub letters_text : List Letter → List ℕ
 letters_text [] = codes "."
 letters_text (c ∷ w) = digits_text (c ∷ w)
 
--- the word of n letters with the numeral x; `?` where n is over 20 or x is no numeral of n letters
-abbrev pub word_text : ℕ → ℕ → List ℕ
-word_text n x = cond (nat_le n 20 && spells n x) (letters_text (letters_of n x)) (codes "?")
+-- the letters of a word; `?` where its length is over 20 or it is no numeral of so many letters
+abbrev pub word_text : Word → List ℕ
+word_text w = cond (nat_le w.length 20 && spells w.length w.digits) (letters_text (letters_of w.length w.digits)) (codes "?")
 
 -- `0` and `1` for the terminals, `d` and its number for a diamond
 abbrev pub target_text : Target → List ℕ
@@ -36,7 +37,7 @@ target_text (Diamond k) = codes "d" ++ decimal k
 -- mark, word and target, with a space between each
 abbrev pub edge_text : Edge → List ℕ
 edge_text e =
-    mark_text e.negated ++ (codes " " ++ (word_text e.length e.word ++ (codes " " ++ target_text e.target)))
+    mark_text e.negated ++ (codes " " ++ (word_text e.word ++ (codes " " ++ target_text e.target)))
 
 -- a refusal goes by its number
 abbrev pub refusal_text : Refusal → List ℕ

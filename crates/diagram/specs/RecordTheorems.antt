@@ -41,7 +41,7 @@ AcceptedBack =
 -- of edges whose words spell: the letter for two halves is the one that making chooses; a letter set on an edge with a place above it is set as making sets it; a diamond is looked up under the number that making finds
 pub record MakingMeant : Type 0 where
   pub chosen : (D : Meaning) (l h : EdgeRecord) → spelled_edge l ≡ true → spelled_edge h ≡ true → choose D (edge_of l) (edge_of h) ≡ written (letter_for D l h) (edge_of l) (edge_of h)
-  pub set : (c : Letter) (e : EdgeRecord) → spelled_edge e ≡ true → e.length < 20 → with_letter c e ≡ Some (edge_record (put c (edge_of e)))
+  pub set : (c : Letter) (e : EdgeRecord) → spelled_edge e ≡ true → e.word.length < 20 → with_letter c e ≡ Some (edge_record (put c (edge_of e)))
   pub found : (ds : List DiamondRecord) (d : DiamondRecord) → spelled_diamonds ds ≡ true → spelled_edge d.low ≡ true → spelled_edge d.high ≡ true → number_of ds d ≡ find (store_of ds) (diamond_of d)
 
 -- the diamonds es and the edge e are a right answer to the rule f where the diamonds ds stood

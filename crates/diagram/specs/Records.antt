@@ -1,6 +1,6 @@
 -- The program's edges and diamonds, and which edges, diamonds and stores they stand for.
 -- The program has a word as an octal numeral with a length, and its diamonds in a list, the oldest first: diamond k is at place k.
-use Rattle.std.specs.Prelude.{ℕ, ◌+◌, Bool, true, false, cond, not, ◌&&◌, List, [], ◌∷◌, map, reverse, length, Some, None, Option, ◌==◌, nat_lt}
+use Rattle.std.specs.Prelude.{ℕ, ◌+◌, Bool, true, false, cond, not, ◌&&◌, List, [], ◌∷◌, map, reverse, length, Some, None, Option, ◌==◌, nat_lt, option_map}
 use Rattle.std.specs.Bool.{beq}
 use Rattle.diagram.specs.declared.letters.Letter.{Letter}
 use Rattle.diagram.specs.declared.letters.Letter.TheVariants.{U, X, C00, C01, C10, C11}
@@ -10,11 +10,9 @@ use Rattle.diagram.specs.declared.edges.Target.TheVariants.{Zero, One, Diamond a
 use Rattle.diagram.specs.declared.edges.Edge.{Edge as EdgeRecord}
 use Rattle.diagram.specs.declared.edges.Diamond.{Diamond as DiamondRecord}
 use Rattle.diagram.specs.Rules.{arity}
-use Rattle.diagram.specs.Words.{numeral, letters_of, spells, pushed}
+use Rattle.diagram.specs.Words.{numeral, letters_of, spells, word, peeled, pushed}
 use Rattle.diagram.specs.Edges.{Target, terminal, diamond, Edge, edge, Diamond, pair, Store, turned, foot, diamond_rule}
-use Rattle.diagram.specs.declared.letters.Kind.{Kind}
-use Rattle.diagram.specs.declared.letters.Kind.TheVariants.{Mixed}
-use Rattle.diagram.specs.Dialects.{constantly, flips, look_at, answer_at, same_answer}
+use Rattle.diagram.specs.Dialects.{flips, look_at, answer_at, same_answer}
 use Rattle.diagram.specs.Acceptance.{acceptable}
 
 -- What a record stands for --
@@ -27,7 +25,7 @@ target_of (DiamondNumber k) = diamond k
 
 -- the edge that a program's edge stands for, if its word spells
 abbrev pub edge_of : EdgeRecord → Edge
-edge_of e = edge e.negated (letters_of e.length e.word) (target_of e.target)
+edge_of e = edge e.negated (letters_of e.word.length e.word.digits) (target_of e.target)
 
 -- the diamond that a program's diamond stands for
 abbrev pub diamond_of : DiamondRecord → Diamond
@@ -53,7 +51,7 @@ target_number (DiamondNumber k) = 2 + k
 
 -- the program's edge: its word is the numeral
 abbrev pub edge_record : Edge → EdgeRecord
-edge_record e = record { negated = e.negated; length = length e.word; word = numeral e.word; target = target_record e.target }
+edge_record e = record { negated = e.negated; word = word (length e.word) (numeral e.word); target = target_record e.target }
 
 -- the program's diamond
 abbrev pub diamond_record : Diamond → DiamondRecord
@@ -71,7 +69,7 @@ target_arity ds t = arity (foot (diamond_rule (store_of ds)) (target_of t))
 
 -- the arity of an edge is its length and its target's arity
 abbrev pub arity_in : List DiamondRecord → EdgeRecord → ℕ
-arity_in ds e = e.length + target_arity ds e.target
+arity_in ds e = e.word.length + target_arity ds e.target
 
 -- Words that spell, and acceptance --
 
@@ -83,7 +81,7 @@ stands_in ds (DiamondNumber k) = nat_lt k (length ds)
 
 -- the word is below 8^length, and each of its digits is a letter
 abbrev pub spelled_edge : EdgeRecord → Bool
-spelled_edge e = spells e.length e.word
+spelled_edge e = spells e.word.length e.word.digits
 
 -- the words of all edges of the diamonds spell
 abbrev pub spelled_diamonds : List DiamondRecord → Bool
@@ -111,27 +109,27 @@ same_target_record (DiamondNumber j) (DiamondNumber k) = j == k
 -- the same mark, length, word and target
 abbrev pub same_record : EdgeRecord → EdgeRecord → Bool
 same_record a b =
-    beq a.negated b.negated && (a.length == b.length && (a.word == b.word && same_target_record a.target b.target))
+    beq a.negated b.negated && (a.word.length == b.word.length && (a.word.digits == b.word.digits && same_target_record a.target b.target))
 
 -- the edge with the other mark
 abbrev pub other_mark : EdgeRecord → EdgeRecord
-other_mark e = record { negated = not e.negated; length = e.length; word = e.word; target = e.target }
+other_mark e = record { negated = not e.negated; word = e.word; target = e.target }
 
 -- a half is constant where its word is 0, so that every letter is u, and its target is a terminal
-abbrev pub kind_to : Bool → Bool → TargetRecord → Kind
-kind_to true n Zero = constantly (flips n false)
-kind_to true n One = constantly (flips n true)
-kind_to true n (DiamondNumber k) = Mixed
-kind_to false n t = Mixed
+abbrev pub constant_to : Bool → Bool → TargetRecord → Option Bool
+constant_to true n Zero = Some (flips n false)
+constant_to true n One = Some (flips n true)
+constant_to true n (DiamondNumber k) = None
+constant_to false n t = None
 
--- what a program's edge is seen to be as a half
-abbrev pub kind_of : EdgeRecord → Kind
-kind_of e = kind_to (e.word == 0) e.negated e.target
+-- the value that a program's edge is seen to have everywhere, if any
+abbrev pub constant_of : EdgeRecord → Option Bool
+constant_of e = constant_to (e.word.digits == 0) e.negated e.target
 
 -- u for equal halves, else the dialect's answer at their look; halves are opposite where the dialect negates and they differ in the mark alone
 abbrev pub letter_for : Meaning → EdgeRecord → EdgeRecord → Option Letter
 letter_for D l h =
-    cond (same_record l h) (Some U) (answer_at D (look_at (kind_of l) (kind_of h) (D.negates && same_record l (other_mark h))))
+    cond (same_record l h) (Some U) (answer_at D (look_at (constant_of l) (constant_of h) (D.negates && same_record l (other_mark h))))
 
 -- Diamonds by number --
 
@@ -150,19 +148,18 @@ number_of ds d = number_behind (reverse ds) d
 
 -- Letters on an edge --
 
--- the edge with the longer word w
-abbrev pub lengthened : EdgeRecord → Option ℕ → Option EdgeRecord
-lengthened e None = None
-lengthened e (Some w) = Some (record { negated = e.negated; length = e.length + 1; word = w; target = e.target })
-
 -- the letter c set on an edge: under a mark its partner is written; none where the word is too long or not below 8^length
 abbrev pub with_letter : Letter → EdgeRecord → Option EdgeRecord
-with_letter c e = lengthened e (pushed e.length e.word (turned e.negated c))
+with_letter c e = option_map (λ w. record { negated = e.negated; word = w; target = e.target }) (pushed e.word (turned e.negated c))
+
+-- the topmost letter of an edge, and the unmarked edge below it; none where the word has no letter on top
+abbrev pub edge_below : EdgeRecord → Option (Letter × EdgeRecord)
+edge_below e = option_map (λ p. (p.0, record { negated = false; word = p.1; target = e.target })) (peeled e.word)
 
 -- the edge of n marks that is constantly b: u alone, so that the word is 0; where the dialect negates, one is the negated zero
 abbrev pub constant_record : Meaning → ℕ → Bool → EdgeRecord
 constant_record D n b =
-    cond D.negates (record { negated = b; length = n; word = 0; target = Zero }) (record { negated = false; length = n; word = 0; target = cond b One Zero })
+    cond D.negates (record { negated = b; word = word n 0; target = Zero }) (record { negated = false; word = word n 0; target = cond b One Zero })
 
 -- the low and the high half that a letter stands for, on the edge e of n marks
 abbrev pub halves_on : Meaning → ℕ → Letter → EdgeRecord → EdgeRecord × EdgeRecord

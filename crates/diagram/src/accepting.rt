@@ -6,10 +6,9 @@ ghost use Rattle.diagram.specs.Edges.{Store, diamond_rule, foot as foot_of};
 ghost use Rattle.diagram.specs.Acceptance.{usual, well_spelled};
 ghost use Rattle.diagram.specs.Records.{target_of, target_arity, arity_in, stands_in, spelled_edge, accepted_in, constant_record, halves_on, letter_chosen};
 
-use crate::edges::{Diamond, Edge, Target};
+use crate::edges::{Diamond, Edge, Target, Word};
 use crate::letters::Letter;
 use crate::meanings::Meaning;
-use crate::words::{peel, spelled};
 
 // The arity of a target among some diamonds; the edges of a diamond go to diamonds before it.
 fn target_arity(diamonds: &[Diamond], target: Target) -> u32
@@ -20,7 +19,7 @@ fn target_arity(diamonds: &[Diamond], target: Target) -> u32
     match target {
         Target::Diamond(k) if (k as usize) < diamonds.len() => {
             let low = diamonds[k as usize].low;
-            1 + low.length as u32 + target_arity(&diamonds[0..k as usize], low.target)
+            1 + low.word.length as u32 + target_arity(&diamonds[0..k as usize], low.target)
         }
         _ => 0,
     }
@@ -30,7 +29,7 @@ fn target_arity(diamonds: &[Diamond], target: Target) -> u32
 pub fn arity(diamonds: &[Diamond], edge: Edge) -> u32
     ensures { result ≡ arity_in diamonds.now edge }
 {
-    edge.length as u32 + target_arity(diamonds, edge.target)
+    edge.word.length as u32 + target_arity(diamonds, edge.target)
 }
 
 // Whether the target is a terminal or a diamond that stands.
@@ -56,17 +55,19 @@ impl Meaning {
     pub fn constant(&self, arity: u8, value: bool) -> Edge
         ensures { result ≡ constant_record self.now arity value }
     {
+        let word = Word {
+            length: arity,
+            digits: 0,
+        };
         match (self.negates, value) {
             (true, _) => Edge {
                 negated: value,
-                length: arity,
-                word: 0,
+                word,
                 target: Target::Zero,
             },
             (false, _) => Edge {
                 negated: false,
-                length: arity,
-                word: 0,
+                word,
                 target: if value { Target::One } else { Target::Zero },
             },
         }
@@ -90,9 +91,10 @@ impl Meaning {
     fn suits(&self, edge: Edge) -> bool
         ensures { result ≡ (if self.now.negates then usual (target_of edge.target) else not edge.negated) }
     {
-        match edge.target {
-            Target::One if self.negates => false,
-            _ => self.negates || !edge.negated,
+        if self.negates {
+            edge.target != Target::One
+        } else {
+            !edge.negated
         }
     }
 
@@ -101,29 +103,20 @@ impl Meaning {
         ensures { result ≡ letter_chosen self.now arity letter below }
     {
         let (low, high) = self.halves_on(arity, letter, below);
-        match self.letter_for(low, high) {
-            Some(chosen) => chosen.code() == letter.code(),
-            None => false,
-        }
+        self.letter_for(low, high) == Some(letter)
     }
 
-    // Whether every letter of an unmarked edge is the one that making chooses; `foot` is the arity of its target.
+    // Whether every letter of the edge is the one that making chooses on the unmarked edge below it; `foot` is the arity of its target.
     fn chooses_all(&self, edge: Edge, foot: u8) -> bool
         requires spelled { spelled_edge edge ≡ true }
-        requires upright { edge.negated ≡ false }
-        requires short { edge.length + foot ≤ 20 }
-        ensures { (s : Store) → marks_of (foot_of (diamond_rule s) (target_of edge.target)) ≡ foot → result ≡ well_spelled self.now s (target_of edge.target) (letters_of edge.length edge.word) }
+        requires short { edge.word.length + foot ≤ 20 }
+        ensures { (s : Store) → marks_of (foot_of (diamond_rule s) (target_of edge.target)) ≡ foot → result ≡ well_spelled self.now s (target_of edge.target) (letters_of edge.word.length edge.word.digits) }
     {
-        match peel(edge.length, edge.word) {
+        match edge.below() {
             None => true,
-            Some((letter, word)) => {
-                let below = Edge {
-                    negated: false,
-                    length: edge.length - 1,
-                    word,
-                    target: edge.target,
-                };
-                self.chooses(below.length + foot, letter, below) && self.chooses_all(below, foot)
+            Some((letter, below)) => {
+                self.chooses(below.word.length + foot, letter, below)
+                    && self.chooses_all(below, foot)
             }
         }
     }
@@ -132,19 +125,13 @@ impl Meaning {
     pub fn accepts(&self, diamonds: &[Diamond], edge: Edge) -> bool
         ensures { result ≡ accepted_in self.now diamonds.now edge }
     {
-        if !stands(diamonds, edge.target) || !self.suits(edge) || !spelled(edge.length, edge.word) {
+        if !stands(diamonds, edge.target) || !self.suits(edge) || !edge.word.is_spelled() {
             return false;
         }
         let foot = target_arity(diamonds, edge.target);
-        if too_long(edge.length, foot) {
+        if too_long(edge.word.length, foot) {
             return false;
         }
-        let upright = Edge {
-            negated: false,
-            length: edge.length,
-            word: edge.word,
-            target: edge.target,
-        };
-        self.chooses_all(upright, foot as u8)
+        self.chooses_all(edge, foot as u8)
     }
 }

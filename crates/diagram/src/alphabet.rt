@@ -1,39 +1,11 @@
 // What a letter is written as, and its partner.
 ghost use Rattle.std.specs.Prelude.{◌≡◌};
+ghost use Rattle.std.specs.Result.{result_ok};
 ghost use Rattle.diagram.specs.Letters.{letter_code, letter_with, partner};
 
 use crate::letters::Letter;
 
 impl Letter {
-    // The octal digit that stands for the letter.
-    pub fn code(self) -> u8
-        ensures { result ≡ letter_code self }
-    {
-        match self {
-            Letter::U => 0,
-            Letter::X => 1,
-            Letter::C00 => 2,
-            Letter::C01 => 3,
-            Letter::C10 => 4,
-            Letter::C11 => 5,
-        }
-    }
-
-    // The letter that a digit stands for, if any.
-    pub fn from_code(digit: u64) -> Option<Letter>
-        ensures { result ≡ letter_with digit }
-    {
-        match digit {
-            0 => Some(Letter::U),
-            1 => Some(Letter::X),
-            2 => Some(Letter::C00),
-            3 => Some(Letter::C01),
-            4 => Some(Letter::C10),
-            5 => Some(Letter::C11),
-            _ => None,
-        }
-    }
-
     // The letter that is written in its place under a mark.
     pub fn partner(self) -> Letter
         ensures { result ≡ partner self }
@@ -45,6 +17,38 @@ impl Letter {
             Letter::C01 => Letter::C00,
             Letter::C10 => Letter::C11,
             Letter::C11 => Letter::C10,
+        }
+    }
+}
+
+// The octal digit that stands for a letter.
+impl From<Letter> for u64 {
+    ghost from_gives = { λ letter digit. digit ≡ letter_code letter };
+
+    fn from(letter: Letter) -> u64 {
+        letter as u64
+    }
+}
+
+// A number that is no letter's digit.
+#[derive(Clone, Copy, Debug, PartialEq, Eq)]
+pub struct NoLetter;
+
+// The letter that a digit stands for.
+impl TryFrom<u64> for Letter {
+    type Error = NoLetter;
+
+    ghost try_from_gives = { λ digit r. result_ok r ≡ letter_with digit };
+
+    fn try_from(digit: u64) -> Result<Letter, NoLetter> {
+        match digit {
+            0 => Ok(Letter::U),
+            1 => Ok(Letter::X),
+            2 => Ok(Letter::C00),
+            3 => Ok(Letter::C01),
+            4 => Ok(Letter::C10),
+            5 => Ok(Letter::C11),
+            _ => Err(NoLetter),
         }
     }
 }

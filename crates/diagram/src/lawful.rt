@@ -4,10 +4,9 @@ ghost use Rattle.diagram.specs.declared.letters.Letter.TheVariants.{U, X};
 ghost use Rattle.diagram.specs.Dialects.{
   has_letter,
   answer_at,
-  low_kind,
-  high_kind,
+  low_constant,
+  high_constant,
   opposed,
-  is,
   fits,
   turn,
   partners,
@@ -22,25 +21,25 @@ use crate::letters::{Letter, Look};
 use crate::meanings::Meaning;
 
 impl Look {
-    // Whether the low half is this constant.
-    fn low_is(self, value: bool) -> bool
-        ensures { result ≡ is value (low_kind self) }
+    // The value of the low half, where it is constant.
+    fn low(self) -> Option<bool>
+        ensures { result ≡ low_constant self }
     {
         match self {
-            Look::ZeroOne | Look::ZeroOther => !value,
-            Look::OneZero | Look::OneOther => value,
-            _ => false,
+            Look::ZeroOne | Look::ZeroOther => Some(false),
+            Look::OneZero | Look::OneOther => Some(true),
+            _ => None,
         }
     }
 
-    // Whether the high half is this constant.
-    fn high_is(self, value: bool) -> bool
-        ensures { result ≡ is value (high_kind self) }
+    // The value of the high half, where it is constant.
+    fn high(self) -> Option<bool>
+        ensures { result ≡ high_constant self }
     {
         match self {
-            Look::OneZero | Look::OtherZero => !value,
-            Look::ZeroOne | Look::OtherOne => value,
-            _ => false,
+            Look::OneZero | Look::OtherZero => Some(false),
+            Look::ZeroOne | Look::OtherOne => Some(true),
+            _ => None,
         }
     }
 
@@ -68,27 +67,6 @@ impl Look {
     }
 }
 
-// The partner of an answer's letter.
-fn partner_of(answer: Option<Letter>) -> Option<Letter>
-    ensures { result ≡ partners answer }
-{
-    match answer {
-        Some(letter) => Some(letter.partner()),
-        None => None,
-    }
-}
-
-// Whether two answers are the same.
-fn same_answers(a: Option<Letter>, b: Option<Letter>) -> bool
-    ensures { result ≡ same_answer a b }
-{
-    match (a, b) {
-        (None, None) => true,
-        (Some(c), Some(d)) => c.code() == d.code(),
-        _ => false,
-    }
-}
-
 impl Meaning {
     // Whether the dialect has the letter.
     pub fn has(&self, letter: Letter) -> bool
@@ -111,10 +89,10 @@ impl Meaning {
         match letter {
             Letter::U => false,
             Letter::X => self.negates && look.is_opposed(),
-            Letter::C00 => look.low_is(false),
-            Letter::C01 => look.low_is(true),
-            Letter::C10 => look.high_is(false),
-            Letter::C11 => look.high_is(true),
+            Letter::C00 => look.low() == Some(false),
+            Letter::C01 => look.low() == Some(true),
+            Letter::C10 => look.high() == Some(false),
+            Letter::C11 => look.high() == Some(true),
         }
     }
 
@@ -129,12 +107,7 @@ impl Meaning {
     fn offers_none(&self, look: Look) -> bool
         ensures { result ≡ right_answer self.now look None }
     {
-        !self.offers(Letter::U, look)
-            && !self.offers(Letter::X, look)
-            && !self.offers(Letter::C00, look)
-            && !self.offers(Letter::C01, look)
-            && !self.offers(Letter::C10, look)
-            && !self.offers(Letter::C11, look)
+        Letter::ALL.iter().all(|&letter| !self.offers(letter, look))
     }
 
     // Whether the answer at the look is a letter on offer or, where none is, none.
@@ -151,7 +124,7 @@ impl Meaning {
     fn turns_rightly(&self, look: Look) -> bool
         ensures { result ≡ (if self.now.negates then same_answer (answer_at self.now (turn look)) (partners (answer_at self.now look)) else true) }
     {
-        !self.negates || same_answers(self.answer(look.turned()), partner_of(self.answer(look)))
+        !self.negates || self.answer(look.turned()) == self.answer(look).map(Letter::partner)
     }
 
     // Whether the look is answered as the laws ask.
@@ -165,14 +138,7 @@ impl Meaning {
     fn right_looks(&self) -> bool
         ensures { result ≡ every_look (right_look self.now) }
     {
-        self.right_look(Look::ZeroOne)
-            && self.right_look(Look::OneZero)
-            && self.right_look(Look::ZeroOther)
-            && self.right_look(Look::OneOther)
-            && self.right_look(Look::OtherZero)
-            && self.right_look(Look::OtherOne)
-            && self.right_look(Look::Opposite)
-            && self.right_look(Look::Plain)
+        Look::ALL.iter().all(|&look| self.right_look(look))
     }
 
     // Whether the dialect has u, and x only if it negates.

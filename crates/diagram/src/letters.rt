@@ -1,6 +1,6 @@
 // Letters, and the looks of two halves that a dialect answers.
 
-// A letter makes a rule of one more mark from a rule; `Letter::code` is its octal digit in a word.
+// A letter makes a rule of one more mark from a rule. They stand in the order of their octal digits in a word, from 0.
 #[derive(Clone, Copy, PartialEq, Eq)]
 pub enum Letter {
     U,
@@ -11,12 +11,16 @@ pub enum Letter {
     C11,
 }
 
-// What a half is seen to be: the constant 0, the constant 1, or neither.
-#[derive(Clone, Copy)]
-pub enum Kind {
-    AllZero,
-    AllOne,
-    Mixed,
+impl Letter {
+    // All six letters.
+    pub(crate) const ALL: [Letter; 6] = [
+        Letter::U,
+        Letter::X,
+        Letter::C00,
+        Letter::C01,
+        Letter::C10,
+        Letter::C11,
+    ];
 }
 
 // What two differing halves, low and high, are seen to be.
@@ -30,4 +34,18 @@ pub enum Look {
     OtherOne,
     Opposite,
     Plain,
+}
+
+impl Look {
+    // All eight looks.
+    pub(crate) const ALL: [Look; 8] = [
+        Look::ZeroOne,
+        Look::OneZero,
+        Look::ZeroOther,
+        Look::OneOther,
+        Look::OtherZero,
+        Look::OtherOne,
+        Look::Opposite,
+        Look::Plain,
+    ];
 }

@@ -1,10 +1,10 @@
 // The letter for two halves.
 ghost use Rattle.std.specs.Prelude.{◌≡◌};
 ghost use Rattle.diagram.specs.Dialects.{answer_at};
-ghost use Rattle.diagram.specs.Records.{same_record, other_mark, kind_of, letter_for};
+ghost use Rattle.diagram.specs.Records.{same_record, other_mark, constant_of, letter_for};
 
 use crate::edges::{Edge, Target};
-use crate::letters::{Kind, Letter, Look};
+use crate::letters::{Letter, Look};
 use crate::meanings::Meaning;
 
 impl Edge {
@@ -21,21 +21,19 @@ impl Edge {
     {
         Edge {
             negated: !self.negated,
-            length: self.length,
-            word: self.word,
-            target: self.target,
+            ..self
         }
     }
 
-    // What the edge is seen to be as a half: constant where its letters are all u, so that its word is 0, and its target is a terminal.
-    pub fn kind(self) -> Kind
-        ensures { result ≡ kind_of self }
+    // The value that the edge is seen to have everywhere, if any: its letters are all u, so that its word is 0, and its target is a terminal.
+    pub fn constant_value(self) -> Option<bool>
+        ensures { result ≡ constant_of self }
     {
         match (self.target, self.negated) {
-            _ if self.word != 0 => Kind::Mixed,
-            (Target::Zero, false) | (Target::One, true) => Kind::AllZero,
-            (Target::Zero, true) | (Target::One, false) => Kind::AllOne,
-            (Target::Diamond(_), _) => Kind::Mixed,
+            _ if self.word.digits != 0 => None,
+            (Target::Zero, negated) => Some(negated),
+            (Target::One, negated) => Some(!negated),
+            (Target::Diamond(_), _) => None,
         }
     }
 }
@@ -61,17 +59,15 @@ impl Meaning {
     pub fn letter_for(&self, low: Edge, high: Edge) -> Option<Letter>
         ensures { result ≡ letter_for self.now low high }
     {
-        match (low.kind(), high.kind()) {
+        match (low.constant_value(), high.constant_value()) {
             _ if low.same(high) => Some(Letter::U),
-            (Kind::AllZero, Kind::AllOne) => self.answer(Look::ZeroOne),
-            (Kind::AllOne, Kind::AllZero) => self.answer(Look::OneZero),
-            (Kind::AllZero, Kind::Mixed) => self.answer(Look::ZeroOther),
-            (Kind::AllOne, Kind::Mixed) => self.answer(Look::OneOther),
-            (Kind::Mixed, Kind::AllZero) => self.answer(Look::OtherZero),
-            (Kind::Mixed, Kind::AllOne) => self.answer(Look::OtherOne),
-            (Kind::Mixed, Kind::Mixed) if self.negates && low.same(high.flip()) => self.answer(
-                Look::Opposite,
-            ),
+            (Some(false), Some(true)) => self.answer(Look::ZeroOne),
+            (Some(true), Some(false)) => self.answer(Look::OneZero),
+            (Some(false), None) => self.answer(Look::ZeroOther),
+            (Some(true), None) => self.answer(Look::OneOther),
+            (None, Some(false)) => self.answer(Look::OtherZero),
+            (None, Some(true)) => self.answer(Look::OtherOne),
+            (None, None) if self.negates && low.same(high.flip()) => self.answer(Look::Opposite),
             _ => self.answer(Look::Plain),
         }
     }

@@ -1,11 +1,10 @@
 // What making an edge from two halves is made of: a letter set on an edge, and a diamond looked up.
-ghost use Rattle.std.specs.Prelude.{◌≡◌};
+ghost use Rattle.std.specs.Prelude.{◌≡◌, ◌<◌, IfSome};
 ghost use Rattle.diagram.specs.Making.{source};
-ghost use Rattle.diagram.specs.Records.{same_diamond_record, number_of, with_letter};
+ghost use Rattle.diagram.specs.Records.{same_diamond_record, number_of, with_letter, edge_below};
 
 use crate::edges::{Diamond, Edge};
 use crate::letters::Letter;
-use crate::words::push;
 
 impl Letter {
     // The half that the letter is set on.
@@ -29,15 +28,22 @@ impl Edge {
         } else {
             letter
         };
-        match push(self.length, self.word, written) {
-            Some(word) => Some(Edge {
-                negated: self.negated,
-                length: self.length + 1,
-                word,
-                target: self.target,
-            }),
-            None => None,
-        }
+        let word = self.word.push(written)?;
+        Some(Edge { word, ..self })
+    }
+
+    // The topmost letter, and the unmarked edge below it.
+    pub fn below(self) -> Option<(Letter, Edge)>
+        ensures value { result ≡ edge_below self }
+        ensures shorter { IfSome result (λ p. p.1.word.length < self.word.length) }
+    {
+        let (letter, word) = self.word.peel()?;
+        let below = Edge {
+            negated: false,
+            word,
+            ..self
+        };
+        Some((letter, below))
     }
 }
 
@@ -46,20 +52,13 @@ impl Diamond {
     pub fn same(self, other: Diamond) -> bool
         ensures { result ≡ same_diamond_record self other }
     {
-        self.low.same(other.low) && self.high.same(other.high)
+        self == other
     }
 
     // The number of the diamond among some, if it stands there.
     pub fn number_in(self, diamonds: &[Diamond]) -> Option<usize>
         ensures { result ≡ number_of diamonds.now self }
     {
-        let mut k = diamonds.len();
-        while k > 0 {
-            k -= 1;
-            if diamonds[k].same(self) {
-                return Some(k);
-            }
-        }
-        None
+        diamonds.iter().rposition(|d| d.same(self))
     }
 }

@@ -1,7 +1,7 @@
 // Why a call is refused.
 
 // Each refusal has a number, 1 to 20, in the order in which they stand here.
-#[derive(Clone, Copy, Debug)]
+#[derive(Clone, Copy, Debug, PartialEq, Eq)]
 pub enum Refusal {
     // An arity over 20.
     ArityOver,

@@ -1,9 +1,6 @@
 // What may be asked of a refusal.
 ghost use Rattle.std.specs.Prelude.{◌≡◌, ◌↔◌, IsTrue};
 ghost use Rattle.diagram.specs.Refusals.{refusal_number, refusal_values, first_value, same_refusal};
-ghost use Rattle.std.specs.Cmp.Rules.{comparing};
-ghost use Rattle.std.proofs.Common.{rules};
-ghost use Rattle.std.specs.Cmp as Keys;
 
 use crate::refusals::Refusal;
 
@@ -45,21 +42,12 @@ impl Refusal {
             _ => None,
         }
     }
-}
 
-impl PartialEq for Refusal {
-    ghost eq = { same_refusal };
-
-    ghost laws = { Keys.partial_equiv_from_equiv (Prim.search (comparing, rules)) };
-
-    fn eq(&self, other: &Refusal) -> bool
-        ensures by_parts { result ≡ same_refusal self.now other.now }
-        ensures same { IsTrue result ↔ (self.now ≡ other.now) }
+    // Whether the two refusals are the same.
+    pub fn same(self, other: Refusal) -> bool
+        ensures by_parts { result ≡ same_refusal self other }
+        ensures same { IsTrue result ↔ (self ≡ other) }
     {
-        self.number() == other.number() && self.place() == other.place()
+        self == other
     }
-}
-
-impl Eq for Refusal {
-    ghost laws = { Prim.search (comparing, rules) };
 }

@@ -1,7 +1,8 @@
 // Words: the only octal arithmetic there is. A word is a numeral of `length` octal digits, the topmost letter first.
-ghost use Rattle.std.specs.Prelude.{◌≡◌, ◌+◌, ◌-◌, ◌*◌, ◌/◌, ◌%◌, ◌^◌, ◌<◌, ◌≤◌, false, ◌&&◌, ◌∷◌, IfSome, nat_le};
+ghost use Rattle.std.specs.Prelude.{◌≡◌, ◌^◌, ◌<◌, ◌≤◌, ◌&&◌, ◌∷◌, IfSome, nat_le};
 ghost use Rattle.diagram.specs.Words.{letters_of, spells, peeled, pushed};
 
+use crate::edges::Word;
 use crate::letters::Letter;
 
 // 8 to the power of n.
@@ -14,47 +15,53 @@ fn power(n: u8) -> u64
     8u64.pow(n as u32)
 }
 
-// The topmost letter and the word below it.
-pub fn peel(length: u8, word: u64) -> Option<(Letter, u64)>
-    ensures value { result ≡ peeled length word }
-    ensures letters { IfSome result (λ p. letters_of length word ≡ p.0 ∷ letters_of (length - 1) p.1) }
-    ensures rest { IfSome result (λ p. spells length word ≡ spells (length - 1) p.1) }
-{
-    if length == 0 || length > 20 {
-        return None;
+impl Word {
+    // The topmost letter and the word below it.
+    pub fn peel(self) -> Option<(Letter, Word)>
+        ensures value { result ≡ peeled self }
+        ensures letters { IfSome result (λ p. letters_of self.length self.digits ≡ p.0 ∷ letters_of p.1.length p.1.digits) }
+        ensures rest { IfSome result (λ p. spells self.length self.digits ≡ spells p.1.length p.1.digits) }
+        ensures shorter { IfSome result (λ p. p.1.length < self.length) }
+    {
+        if self.length == 0 || self.length > 20 {
+            return None;
+        }
+        let length = self.length - 1;
+        let unit = power(length);
+        let letter = Letter::try_from(self.digits / unit).ok()?;
+        let digits = self.digits % unit;
+        Some((letter, Word { length, digits }))
     }
-    let unit = power(length - 1);
-    match Letter::from_code(word / unit) {
-        Some(letter) => Some((letter, word % unit)),
-        None => None,
-    }
-}
 
-// The word with a letter more on top.
-pub fn push(length: u8, word: u64, letter: Letter) -> Option<u64>
-    ensures value { result ≡ pushed length word letter }
-    ensures letters { IfSome result (λ w. letters_of (length + 1) w ≡ letter ∷ letters_of length word) }
-    ensures rest { IfSome result (λ w. spells (length + 1) w ≡ spells length word) }
-{
-    if length >= 20 {
-        return None;
+    // The word with a letter more on top.
+    pub fn push(self, letter: Letter) -> Option<Word>
+        ensures value { result ≡ pushed self letter }
+        ensures letters { IfSome result (λ w. letters_of w.length w.digits ≡ letter ∷ letters_of self.length self.digits) }
+        ensures rest { IfSome result (λ w. spells w.length w.digits ≡ spells self.length self.digits) }
+    {
+        if self.length >= 20 {
+            return None;
+        }
+        let unit = power(self.length);
+        if self.digits >= unit {
+            return None;
+        }
+        Some(Word {
+            length: self.length + 1,
+            digits: u64::from(letter) * unit + self.digits,
+        })
     }
-    let unit = power(length);
-    if word >= unit {
-        return None;
-    }
-    Some(letter.code() as u64 * unit + word)
-}
 
-// Whether the word has at most 20 digits and each is a letter.
-pub fn spelled(length: u8, word: u64) -> bool
-    ensures { result ≡ (nat_le length 20 && spells length word) }
-{
-    if length == 0 {
-        return word == 0;
-    }
-    match peel(length, word) {
-        Some((_, rest)) => spelled(length - 1, rest),
-        None => false,
+    // Whether the word has at most 20 digits and each is a letter.
+    pub fn is_spelled(self) -> bool
+        ensures { result ≡ (nat_le self.length 20 && spells self.length self.digits) }
+    {
+        if self.length == 0 {
+            return self.digits == 0;
+        }
+        let Some((_, below)) = self.peel() else {
+            return false;
+        };
+        below.is_spelled()
     }
 }

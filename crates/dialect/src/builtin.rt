@@ -1,30 +1,33 @@
 // The five built-in dialects.
-ghost use Rattle.std.specs.Prelude.{◌≡◌, [], ◌∷◌};
+ghost use Rattle.std.specs.Prelude.{◌≡◌, [], ◌∷◌, map, refl};
 ghost use Rattle.diagram.specs.Builtin.{dialect1, dialect2, dialect3, dialect4, dialect5};
+ghost use Rattle.dialect.specs.Alone.{u_alone, u_alone_lawful};
+ghost use Rattle.dialect.specs.declared.profiles.Profile.{Profile as ProfileRecord};
 ghost use Rattle.std.proofs.Common.{rules};
 
 use crate::dialects::Dialect;
+use crate::profiles::Profile;
 use diagram::letters::{Letter, Look};
 
-// u, not negating.
-pub struct Dialect1;
+// u alone: the code and whether it negates are all in which such dialects differ.
+pub struct UAlone<const NUMBER: u8, const SIGNED: bool>;
 
-impl Dialect for Dialect1 {
-    const CODE: u8 = 1;
+impl<const NUMBER: u8, const SIGNED: bool> Dialect for UAlone<NUMBER, SIGNED> {
+    const CODE: u8 = NUMBER;
 
-    const NEGATES: bool = false;
+    ghost CODE = { NUMBER };
 
-    ghost meaning = { dialect1 };
+    const NEGATES: bool = SIGNED;
 
-    ghost sound = { Prim.search rules };
+    ghost NEGATES = { SIGNED };
 
-    fn coded() -> u8 {
-        Self::CODE
-    }
+    ghost meaning = { u_alone NUMBER SIGNED };
 
-    fn negating() -> bool {
-        Self::NEGATES
-    }
+    ghost coded = { refl };
+
+    ghost negating = { refl };
+
+    ghost sound = { u_alone_lawful NUMBER SIGNED };
 
     fn has(letter: Letter) -> bool {
         matches!(letter, Letter::U)
@@ -34,35 +37,12 @@ impl Dialect for Dialect1 {
         None
     }
 }
+
+// u, not negating.
+pub type Dialect1 = UAlone<1, false>;
 
 // u, negating.
-pub struct Dialect2;
-
-impl Dialect for Dialect2 {
-    const CODE: u8 = 2;
-
-    const NEGATES: bool = true; // unlike dialect 1
-
-    ghost meaning = { dialect2 };
-
-    ghost sound = { Prim.search rules };
-
-    fn coded() -> u8 {
-        Self::CODE
-    }
-
-    fn negating() -> bool {
-        Self::NEGATES
-    }
-
-    fn has(letter: Letter) -> bool {
-        matches!(letter, Letter::U)
-    }
-
-    fn answer(_look: Look) -> Option<Letter> {
-        None
-    }
-}
+pub type Dialect2 = UAlone<2, true>;
 
 // u and c10, not negating.
 pub struct Dialect3;
@@ -70,19 +50,19 @@ pub struct Dialect3;
 impl Dialect for Dialect3 {
     const CODE: u8 = 3;
 
+    ghost CODE = { dialect3.code };
+
     const NEGATES: bool = false;
+
+    ghost NEGATES = { dialect3.negates };
 
     ghost meaning = { dialect3 };
 
+    ghost coded = { refl };
+
+    ghost negating = { refl };
+
     ghost sound = { Prim.search rules };
-
-    fn coded() -> u8 {
-        Self::CODE
-    }
-
-    fn negating() -> bool {
-        Self::NEGATES
-    }
 
     fn has(letter: Letter) -> bool {
         matches!(letter, Letter::U | Letter::C10)
@@ -102,19 +82,19 @@ pub struct Dialect4;
 impl Dialect for Dialect4 {
     const CODE: u8 = 4;
 
+    ghost CODE = { dialect4.code };
+
     const NEGATES: bool = false;
+
+    ghost NEGATES = { dialect4.negates };
 
     ghost meaning = { dialect4 };
 
+    ghost coded = { refl };
+
+    ghost negating = { refl };
+
     ghost sound = { Prim.search rules };
-
-    fn coded() -> u8 {
-        Self::CODE
-    }
-
-    fn negating() -> bool {
-        Self::NEGATES
-    }
 
     fn has(letter: Letter) -> bool {
         matches!(letter, Letter::U | Letter::C00 | Letter::C10)
@@ -135,19 +115,19 @@ pub struct Dialect5;
 impl Dialect for Dialect5 {
     const CODE: u8 = 5;
 
+    ghost CODE = { dialect5.code };
+
     const NEGATES: bool = true;
+
+    ghost NEGATES = { dialect5.negates };
 
     ghost meaning = { dialect5 };
 
+    ghost coded = { refl };
+
+    ghost negating = { refl };
+
     ghost sound = { Prim.search rules };
-
-    fn coded() -> u8 {
-        Self::CODE
-    }
-
-    fn negating() -> bool {
-        Self::NEGATES
-    }
 
     fn has(_letter: Letter) -> bool {
         true
@@ -163,6 +143,19 @@ impl Dialect for Dialect5 {
             Look::Plain => None,
         }
     }
+}
+
+// The profiles of the built-in dialects.
+pub fn built_in() -> [Profile; 5]
+    ensures { map (λ (p : ProfileRecord). p.meaning) result ≡ dialect1 ∷ dialect2 ∷ dialect3 ∷ dialect4 ∷ dialect5 ∷ [] }
+{
+    [
+        Profile::of::<Dialect1>(),
+        Profile::of::<Dialect2>(),
+        Profile::of::<Dialect3>(),
+        Profile::of::<Dialect4>(),
+        Profile::of::<Dialect5>(),
+    ]
 }
 
 // The codes of the built-in dialects, by their constants: each is the code of its meaning.

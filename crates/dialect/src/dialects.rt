@@ -1,5 +1,5 @@
 // The open interface of dialects.
-ghost use Rattle.std.specs.Prelude.{◌≡◌, true};
+ghost use Rattle.std.specs.Prelude.{◌≡◌, ℕ, Bool, true};
 ghost use Rattle.diagram.specs.declared.meanings.Meaning.{Meaning};
 ghost use Rattle.diagram.specs.Dialects.{has_letter, answer_at, lawful};
 
@@ -9,18 +9,15 @@ use diagram::letters::{Letter, Look};
 pub trait Dialect {
     // The code that files name the dialect by.
     const CODE: u8;
+
+    ghost CODE: { ℕ };
+
     // Whether edges may be negated.
     const NEGATES: bool;
 
+    ghost NEGATES: { Bool };
+
     ghost meaning: { Meaning };
-
-    // `CODE`, for code that is written for every dialect: a constant that is read there carries no fact.
-    fn coded() -> u8
-        ensures { result ≡ meaning.code };
-
-    // `NEGATES`, likewise.
-    fn negating() -> bool
-        ensures { result ≡ meaning.negates };
 
     // Whether the dialect has the letter.
     fn has(letter: Letter) -> bool
@@ -29,6 +26,11 @@ pub trait Dialect {
     // The letter that stands for two halves with this look, if there is one.
     fn answer(look: Look) -> Option<Letter>
         ensures { result ≡ answer_at meaning look };
+
+    // The constants are those of the meaning.
+    ghost coded: { meaning.code ≡ CODE };
+
+    ghost negating: { meaning.negates ≡ NEGATES };
 
     ghost sound: { lawful meaning ≡ true };
 }

@@ -22,8 +22,8 @@ impl Profile {
     {
         Profile {
             meaning: Meaning {
-                code: D::coded(),
-                negates: D::negating(),
+                code: D::CODE,
+                negates: D::NEGATES,
                 letters: letters_of::<D>(),
                 answers: answers_of::<D>(),
             },

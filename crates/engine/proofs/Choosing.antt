@@ -24,7 +24,7 @@ use Rattle.engine.specs.States.{HalvesFit, Joins}
 use Rattle.engine.proofs.Joining.{kept_same}
 
 -- an edge that is accepted and has a place above it has fewer than 20 letters
-pub room_above : (ds : List DiamondRecord) (e : EdgeRecord) → arity (rule_of (store_of ds) (edge_of e)) ≤ 19 → e.length < 20
+pub room_above : (ds : List DiamondRecord) (e : EdgeRecord) → arity (rule_of (store_of ds) (edge_of e)) ≤ 19 → e.word.length < 20
 room_above ds e h = let p = arity_record (store_of ds) e in omega arith
 
 source_there : (c : Letter) (l h : EdgeRecord) → edge_of (source c l h) ≡ source c (edge_of l) (edge_of h)
@@ -54,7 +54,7 @@ module _ (D : Meaning) (ds : List DiamondRecord) (low high : EdgeRecord) (f : Ha
       let s = source_both (λ e. spelled_edge e ≡ true) c low high (spelled_in D ds low f.low_in) (spelled_in D ds high f.high_in) in
       let a = f.level in
       let b = f.short in
-      let l = source_both (λ e. e.length < 20) c low high (room_above ds low f.short) (room_above ds high (omega arith)) in
+      let l = source_both (λ e. e.word.length < 20) c low high (room_above ds low f.short) (room_above ds high (omega arith)) in
       with_letter_there c (source c low high) s l ∙ ap (λ (e : Edge). Some (edge_record (put c e))) (source_there c low high)
 
   pub made_letter : (c : Letter) → spelled_diamonds ds ≡ true → length ds ≤ 1024 → letter_for D low high ≡ Some c →

@@ -1,27 +1,25 @@
 -- What constant, equal and opposite edges settle is right.
 use Rattle.std.proofs.Common.{◌≡◌, ℕ, zero, suc, ◌<◌, Bool, true, false, cond, ◌⊎◌, List, [], Some, None, Option, sym, refl, ap, ◌∙◌, subst, ap₂, inl, inr, arith}
-use Rattle.diagram.specs.declared.letters.Kind.{Kind}
-use Rattle.diagram.specs.declared.letters.Kind.TheVariants.{AllZero, AllOne, Mixed}
 use Rattle.diagram.specs.declared.edges.Edge.{Edge as EdgeRecord}
 use Rattle.diagram.specs.declared.edges.Diamond.{Diamond as DiamondRecord}
 use Rattle.diagram.specs.declared.meanings.Meaning.{Meaning}
 use Rattle.diagram.specs.Rules.{Rule, constant, ◌⋆◌, arity, Balanced, negate, full, pointwise}
 use Rattle.diagram.specs.Edges.{terminal, Edge, edge, Store, diamond_rule, rule_of}
-use Rattle.diagram.specs.Dialects.{is, kind}
+use Rattle.diagram.specs.Dialects.{is, constant_value}
 use Rattle.diagram.specs.Making.{flat, low_half}
 use Rattle.diagram.specs.Acceptance.{Acceptable}
-use Rattle.diagram.specs.Records.{edge_of, store_of, accepted_in, constant_record, kind_of, other_mark, same_record}
+use Rattle.diagram.specs.Records.{edge_of, store_of, accepted_in, constant_record, constant_of, other_mark, same_record}
 use Rattle.diagram.specs.RecordTheorems.{rule_in}
 use Rattle.diagram.proofs.Laws.{arity_negate, sense_flat, sense_flip, negate_negate}
 use Rattle.diagram.proofs.Split.{Leaf, split, accepted_flip}
-use Rattle.diagram.proofs.Fits.{flat_kind}
+use Rattle.diagram.proofs.Fits.{flat_constant, is_itself}
 use Rattle.diagram.proofs.Notions.{Halves}
 use Rattle.diagram.proofs.Placed.{arity_record}
-use Rattle.diagram.proofs.Recorded.{kind_alike, same_record_eq, constant_there}
+use Rattle.diagram.proofs.Recorded.{constant_alike, same_record_eq, constant_there}
 use Rattle.diagram.proofs.Recording.{normal_of, acceptable_in, spelled_in, accepted_met}
 use Rattle.diagram.proofs.Told.{balanced_rule}
 use Rattle.engine.specs.States.{EdgeOfArity}
-use Rattle.basics.specs.Settled.{fixed_at, by_one, settled_by}
+use Rattle.basics.specs.Settled.{by_one, settled_by}
 use Rattle.engine.specs.Laws.{HeldWell}
 use Rattle.engine.proofs.Marks.{constant_in}
 
@@ -77,19 +75,19 @@ negated_by op f p q = with_itself op f ∙ ap₂ (λ (z o : Bool). applied z o f
 
 -- Edges --
 
-fixed_flat : (D : Meaning) (b : Bool) → fixed_at (kind (flat D 0 b)) ≡ Some b
-fixed_flat D b = go D.negates b
+flat_value : (D : Meaning) (b : Bool) → constant_value (flat D 0 b) ≡ Some b
+flat_value D b = go D.negates b
   where
-    go : (m c : Bool) → fixed_at (kind (cond m (edge c [] (terminal false)) (edge false [] (terminal c)))) ≡ Some c
+    go : (m c : Bool) → constant_value (cond m (edge c [] (terminal false)) (edge false [] (terminal c))) ≡ Some c
     go true true = refl
     go true false = refl
     go false true = refl
     go false false = refl
 
 -- an edge of no mark is a constant
-leaf_fixed : {D : Meaning} {s : Store} {e : Edge} {k : Kind} → Leaf D s e ⊎ Halves D s e → arity (rule_of s e) ≡ 0 → k ≡ kind e → (b : Bool) × (fixed_at k ≡ Some b)
-leaf_fixed {D} {s} {e} {k} (inl x) z p = (x.bit, ap fixed_at (p ∙ ap kind x.is) ∙ fixed_flat D x.bit)
-leaf_fixed {D} {s} {e} {k} (inr x) z p = let q : arity (rule_of s e) ≡ suc (arity (rule_of s (low_half D s e))) = ap arity x.rule in absurd (omega arith)
+leaf_value : {D : Meaning} {s : Store} {e : Edge} {k : Option Bool} → Leaf D s e ⊎ Halves D s e → arity (rule_of s e) ≡ 0 → k ≡ constant_value e → (b : Bool) × (k ≡ Some b)
+leaf_value {D} {s} {e} {k} (inl x) z p = (x.bit, p ∙ ap constant_value x.is ∙ flat_value D x.bit)
+leaf_value {D} {s} {e} {k} (inr x) z p = let q : arity (rule_of s e) ≡ suc (arity (rule_of s (low_half D s e))) = ap arity x.rule in absurd (omega arith)
 
 module _ (D : Meaning) (ds : List DiamondRecord) (w : HeldWell D ds) where
   balanced_in : (e : EdgeRecord) → Balanced (rule_in ds e)
@@ -110,21 +108,11 @@ module _ (D : Meaning) (ds : List DiamondRecord) (w : HeldWell D ds) where
       (accepted_met D ds (other_mark e) (spelled_in D ds e h) b, r)
 
   -- an edge that is seen as a constant means it
-  kind_means : (e : EdgeRecord) (n : ℕ) (b : Bool) → EdgeOfArity D ds e n → is b (kind_of e) ≡ true → rule_in ds e ≡ full n b
-  kind_means e n b a h =
-      let k = flat_kind D (store_of ds) (edge_of e) b (acceptable_in D ds e a.accepted).accepted (ap (is b) (sym (kind_alike e (spelled_in D ds e a.accepted))) ∙ h) in
+  pub value_means : (e : EdgeRecord) (n : ℕ) (b : Bool) → EdgeOfArity D ds e n → constant_of e ≡ Some b → rule_in ds e ≡ full n b
+  value_means e n b a h =
+      let k = flat_constant D (store_of ds) (edge_of e) b (acceptable_in D ds e a.accepted).accepted (ap (is b) (sym (constant_alike e (spelled_in D ds e a.accepted)) ∙ h) ∙ is_itself b) in
       let m : arity (rule_in ds e) ≡ n = arity_record (store_of ds) e ∙ a.marks in
       ap (rule_of (store_of ds)) k ∙ sense_flat (diamond_rule (store_of ds)) D (arity (rule_in ds e)) b ∙ ap (λ (j : ℕ). full j b) m
-
-  pub fixed_means : (e : EdgeRecord) (n : ℕ) (b : Bool) → EdgeOfArity D ds e n → fixed_at (kind_of e) ≡ Some b → rule_in ds e ≡ full n b
-  fixed_means e n b a h = kind_means e n b a (go (kind_of e) b h)
-    where
-      go : (k : Kind) (c : Bool) → fixed_at k ≡ Some c → is c k ≡ true
-      go AllZero true p = let z : ◌≡◌ {A = ℕ} 0 1 = cc in absurd (omega arith)
-      go AllZero false p = refl
-      go AllOne true p = refl
-      go AllOne false p = let z : ◌≡◌ {A = ℕ} 0 1 = cc in absurd (omega arith)
-      go Mixed c p = let z : ◌≡◌ {A = ℕ} 0 1 = cc in absurd (omega arith)
 
   -- the edge e is accepted and means f
   abbrev Right : Rule → EdgeRecord → Type 0
@@ -164,11 +152,11 @@ module _ (D : Meaning) (ds : List DiamondRecord) (w : HeldWell D ds) where
     abbrev target : Rule
     target = pointwise op (rule_in ds a) (rule_in ds b)
 
-    settled_at : (v w : Option Bool) → fixed_at (kind_of a) ≡ v → fixed_at (kind_of b) ≡ w → (r : EdgeRecord) → settled_by D op v w a b n ≡ Some r → Right target r
+    settled_at : (v w : Option Bool) → constant_of a ≡ v → constant_of b ≡ w → (r : EdgeRecord) → settled_by D op v w a b n ≡ Some r → Right target r
     settled_at (Some v) (Some w) p q r h =
         let c : constant_record D n (op v w) ≡ r = cc in
-        let f = fixed_means a n v ha p in
-        let g = fixed_means b n w hb q in
+        let f = value_means a n v ha p in
+        let g = value_means b n w hb q in
         let t : target ≡ applied (op v w) (op v w) (rule_in ds b) =
         ap₂ (pointwise op) f g ∙ both n ∙ ap (λ (j : ℕ). full j (op v w)) (sym marks_b) ∙ sym (applied_full (op v w) (rule_in ds b) (balanced_in b)) in
         subst (λ (x : Rule). Right x r) (sym t) (flat_right (op v w) b n r hb c)
@@ -177,12 +165,12 @@ module _ (D : Meaning) (ds : List DiamondRecord) (w : HeldWell D ds) where
         both zero = refl
         both (suc m) = ap₂ ◌⋆◌ (both m) (both m)
     settled_at (Some v) None p q r h =
-        let f = fixed_means a n v ha p in
+        let f = value_means a n v ha p in
         let t : target ≡ applied (op v false) (op v true) (rule_in ds b) =
         ap (λ (x : Rule). pointwise op x (rule_in ds b)) (f ∙ ap (λ (j : ℕ). full j v) (sym marks_b)) ∙ with_left op v (rule_in ds b) (balanced_in b) in
         subst (λ (x : Rule). Right x r) (sym t) (by_one_right (op v false) (op v true) b n r hb h)
     settled_at None (Some w) p q r h =
-        let g = fixed_means b n w hb q in
+        let g = value_means b n w hb q in
         let t : target ≡ applied (op false w) (op true w) (rule_in ds a) =
         ap (pointwise op (rule_in ds a)) (g ∙ ap (λ (j : ℕ). full j w) (sym marks_a)) ∙ with_right op w (rule_in ds a) (balanced_in a) in
         subst (λ (x : Rule). Right x r) (sym t) (by_one_right (op false w) (op true w) a n r ha h)
@@ -203,15 +191,15 @@ module _ (D : Meaning) (ds : List DiamondRecord) (w : HeldWell D ds) where
         go false e false i k = let z : ◌≡◌ {A = ℕ} 0 1 = cc in absurd (omega arith)
 
     -- what is settled is accepted and means the combination
-    pub settled_right : (r : EdgeRecord) → settled_by D op (fixed_at (kind_of a)) (fixed_at (kind_of b)) a b n ≡ Some r → Right target r
-    settled_right r h = settled_at (fixed_at (kind_of a)) (fixed_at (kind_of b)) refl refl r h
+    pub settled_right : (r : EdgeRecord) → settled_by D op (constant_of a) (constant_of b) a b n ≡ Some r → Right target r
+    settled_right r h = settled_at (constant_of a) (constant_of b) refl refl r h
 
     -- edges of no mark are constant, so that their combination is settled
-    pub unsettled_marks : settled_by D op (fixed_at (kind_of a)) (fixed_at (kind_of b)) a b n ≡ None → 0 < n
+    pub unsettled_marks : settled_by D op (constant_of a) (constant_of b) a b n ≡ None → 0 < n
     unsettled_marks h = go n refl
       where
-        leaf : (e : EdgeRecord) → EdgeOfArity D ds e n → n ≡ 0 → (x : Bool) × (fixed_at (kind_of e) ≡ Some x)
-        leaf e k z = leaf_fixed (split D w.lawful (store_of ds) (normal_of D ds w.normal) (edge_of e) (acceptable_in D ds e k.accepted).accepted) (arity_record (store_of ds) e ∙ k.marks ∙ z) (kind_alike e (spelled_in D ds e k.accepted))
+        leaf : (e : EdgeRecord) → EdgeOfArity D ds e n → n ≡ 0 → (x : Bool) × (constant_of e ≡ Some x)
+        leaf e k z = leaf_value (split D w.lawful (store_of ds) (normal_of D ds w.normal) (edge_of e) (acceptable_in D ds e k.accepted).accepted) (arity_record (store_of ds) e ∙ k.marks ∙ z) (constant_alike e (spelled_in D ds e k.accepted))
 
         go : (m : ℕ) → n ≡ m → 0 < n
         go zero z =

@@ -18,7 +18,6 @@ use Rattle.diagram.proofs.Told.{arity_pointwise}
 use Rattle.diagram.proofs.Recorded.{edge_there, store_there, store_length}
 use Rattle.diagram.proofs.Recording.{normal_of, acceptable_in}
 use Rattle.cache.specs.declared.entries.Key.{Key}
-use Rattle.unique.specs.Shelf.{diamonds_in}
 use Rattle.engine.specs.declared.states.State.{State}
 use Rattle.engine.specs.Steps.{Outcome, kept, inserted, joint, combine_step, right_for}
 use Rattle.basics.specs.Settled.{settled}
@@ -374,26 +373,26 @@ refused_made P r x p = subst (λ (q : Result EdgeRecord Refusal). IfOk q P) (sym
 
 -- The same, of an engine's state --
 
-module _ (s : State) (k : Key) (n : ℕ) (a : KeyOfArity s.profile.meaning (diamonds_in s.diamonds) k n) where
+module _ (s : State) (k : Key) (n : ℕ) (a : KeyOfArity s.profile.meaning s.diamonds k n) where
   -- a result that was found
-  pub joined_found : (e : EdgeRecord) → right_for s.profile.meaning (diamonds_in s.diamonds) k e ≡ true →
-      Joined s.profile.meaning (diamonds_in s.diamonds) (joint_of (diamonds_in s.diamonds) k) (Ok e) (diamonds_in s.diamonds)
+  pub joined_found : (e : EdgeRecord) → right_for s.profile.meaning s.diamonds k e ≡ true →
+      Joined s.profile.meaning s.diamonds (joint_of s.diamonds k) (Ok e) s.diamonds
   joined_found e h =
-      joined_known s.profile.meaning (diamonds_in s.diamonds) (state_well s) k n a e (right_read s.profile.meaning (diamonds_in s.diamonds) (state_well s) k e h)
+      joined_known s.profile.meaning s.diamonds (state_well s) k n a e (right_read s.profile.meaning s.diamonds (state_well s) k e h)
 
   -- a result that stands may be remembered
-  pub joined_right : (e : EdgeRecord) → Joined s.profile.meaning (diamonds_in s.diamonds) (joint_of (diamonds_in s.diamonds) k) (Ok e) (diamonds_in s.diamonds) →
-      right_for s.profile.meaning (diamonds_in s.diamonds) k e ≡ true
+  pub joined_right : (e : EdgeRecord) → Joined s.profile.meaning s.diamonds (joint_of s.diamonds k) (Ok e) s.diamonds →
+      right_for s.profile.meaning s.diamonds k e ≡ true
   joined_right e j =
-      right_met s.profile.meaning (diamonds_in s.diamonds) (state_well s) k e
-      (joined_stands s.profile.meaning (diamonds_in s.diamonds) (state_well s) k n a e (diamonds_in s.diamonds) j)
+      right_met s.profile.meaning s.diamonds (state_well s) k e
+      (joined_stands s.profile.meaning s.diamonds (state_well s) k n a e s.diamonds j)
 
   module _ (m : Meaning) (is : m ≡ s.profile.meaning) where
     -- a result that was settled
-    pub joined_settled : (e : EdgeRecord) → Some e ≡ settled m k n → Joined s.profile.meaning (diamonds_in s.diamonds) (joint_of (diamonds_in s.diamonds) k) (Ok e) (diamonds_in s.diamonds)
+    pub joined_settled : (e : EdgeRecord) → Some e ≡ settled m k n → Joined s.profile.meaning s.diamonds (joint_of s.diamonds k) (Ok e) s.diamonds
     joined_settled e h =
         let D = s.profile.meaning in
-        let ds = diamonds_in s.diamonds in
+        let ds = s.diamonds in
         let r = settled_right D ds (state_well s) (connective k.connective) k.left k.right n a.left a.right e (ap (λ (x : Meaning). settled x k n) (sym is) ∙ sym h) in
         joined_known D ds (state_well s) k n a e
         (asked_step D ds k.connective k.left k.right (key_asked D ds k n a) ∙ known D ds (state_well s) (joint_of ds k) e r.0 r.1)
@@ -401,5 +400,5 @@ module _ (s : State) (k : Key) (n : ℕ) (a : KeyOfArity s.profile.meaning (diam
     -- a combination that is not settled has a mark
     pub unsettled_some : None ≡ settled m k n → 0 < n
     unsettled_some h =
-        unsettled_marks s.profile.meaning (diamonds_in s.diamonds) (state_well s) (connective k.connective) k.left k.right n a.left a.right
+        unsettled_marks s.profile.meaning s.diamonds (state_well s) (connective k.connective) k.left k.right n a.left a.right
         (ap (λ (x : Meaning). settled x k n) (sym is) ∙ sym h)

@@ -1,5 +1,5 @@
 -- The halves of accepted edges of some mark.
-use Rattle.std.proofs.Common.{◌≡◌, ℕ, zero, suc, ◌-◌, ◌/◌, ◌%◌, ◌<◌, ◌≤◌, Bool, true, false, cond, ◌&&◌, eqb, List, [], ◌∷◌, map, length, get_or, None, sym, refl, ap, ◌∙◌, subst, ap₂, arith}
+use Rattle.std.proofs.Common.{◌≡◌, ℕ, zero, suc, ◌-◌, ◌/◌, ◌%◌, ◌<◌, ◌≤◌, Bool, true, false, cond, ◌&&◌, eqb, List, [], ◌∷◌, map, length, get_or, Some, None, sym, refl, ap, ◌∙◌, subst, ap₂, arith}
 use lib.ListN.{length-map}
 use Rattle.std.proofs.lemmas.List.{get_or-map}
 use Rattle.std.proofs.lemmas.Bool.{and_parts, eqb-true, eqb-false, eq-eqb, ne_eqb}
@@ -10,21 +10,21 @@ use Rattle.diagram.specs.declared.edges.Target.{Target as TargetRecord}
 use Rattle.diagram.specs.declared.edges.Target.TheVariants.{Zero, One, Diamond as DiamondNumber}
 use Rattle.diagram.specs.declared.meanings.Meaning.{Meaning}
 use Rattle.diagram.specs.Rules.{Rule, arity, Balanced, value}
-use Rattle.diagram.specs.Words.{letters_of, spells, peeled}
-use Rattle.diagram.specs.Edges.{Edge, Diamond, Store, foot, sign, spell, diamond_rule, rule_of, diamond_at, flip}
+use Rattle.diagram.specs.Words.{letters_of}
+use Rattle.diagram.specs.Edges.{Edge, edge, Diamond, Store, foot, sign, spell, diamond_rule, rule_of, diamond_at, flip}
 use Rattle.diagram.specs.Dialects.{Lawful}
-use Rattle.diagram.specs.Making.{flat, low_of, high_of, low_upright, high_upright, flip_if, low_half, high_half}
+use Rattle.diagram.specs.Making.{flat, low_of, high_of, upright, low_upright, high_upright, flip_if, low_half, high_half}
 use Rattle.diagram.specs.Acceptance.{Within, Accepted, Acceptable, normal}
-use Rattle.diagram.specs.Records.{target_of, edge_of, diamond_of, store_of, arity_in, spelled_edge, spelled_diamonds, accepted_in, halves_on, other_mark}
+use Rattle.diagram.specs.Records.{target_of, edge_of, diamond_of, store_of, arity_in, spelled_edge, spelled_diamonds, accepted_in, edge_below, halves_on, other_mark}
 use Rattle.diagram.proofs.Bridge.{arity_edge, nth}
 use Rattle.diagram.proofs.Notions.{Halves}
 use Rattle.diagram.proofs.Told.{balanced_rule}
 use Rattle.diagram.proofs.Halving.{halves_right}
 use Rattle.diagram.proofs.Decides.{normal_right}
 use Rattle.diagram.proofs.Placed.{arity_record, arity_step, no_diamond}
-use Rattle.diagram.proofs.Recorded.{edge_made, store_length, halves_there, halves_spelled}
+use Rattle.diagram.proofs.Recorded.{store_length, halves_there, halves_spelled}
 use Rattle.diagram.proofs.Recording.{spelled_in, acceptable_in, accepted_met}
-use Rattle.diagram.proofs.Spelt.{nothing_peeled}
+use Rattle.diagram.proofs.Spelt.{nothing_below, below_parts}
 use Rattle.engine.specs.States.{EdgeOfArity, half_at, end_value}
 
 -- a diamond of the list is that of the store
@@ -58,17 +58,17 @@ module _ (D : Meaning) (ds : List DiamondRecord) (e : EdgeRecord) (n : ℕ) (a :
       omega arith
 
   -- an accepted edge has at most 20 letters
-  pub length_most : e.length ≤ 20
+  pub length_most : e.word.length ≤ 20
   length_most =
       let p = (acceptable_in D ds e a.accepted).short in
       let q = arity_record (store_of ds) e in
       omega arith
 
-  pub no_letters : peeled e.length e.word ≡ None → e.length ≡ 0
-  no_letters h = nothing_peeled e.length e.word length_most (spelled_in D ds e a.accepted) h
+  pub no_letters : edge_below e ≡ None → e.word.length ≡ 0
+  no_letters h = nothing_below e length_most (spelled_in D ds e a.accepted) h
 
   -- without letters, an edge of some mark goes to a diamond
-  pub to_diamond : 0 < n → peeled e.length e.word ≡ None → ((k : ℕ) → e.target ≡ DiamondNumber k → ⊥) → ⊥
+  pub to_diamond : 0 < n → edge_below e ≡ None → ((k : ℕ) → e.target ≡ DiamondNumber k → ⊥) → ⊥
   to_diamond h p t =
       let q = no_letters p in
       let s = terminal_arity (diamond_rule (store_of ds)) e.target t in
@@ -76,46 +76,51 @@ module _ (D : Meaning) (ds : List DiamondRecord) (e : EdgeRecord) (n : ℕ) (a :
       omega arith
 
   -- the halves by the topmost letter
-  module _ (c : Letter) (w : ℕ) (l : letters_of e.length e.word ≡ c ∷ letters_of (e.length - 1) w) (r : spells e.length e.word ≡ spells (e.length - 1) w) where
-    abbrev below : EdgeRecord
-    below = edge_made false (e.length - 1) w e.target
+  module _ (c : Letter) (d : EdgeRecord) (b : edge_below e ≡ Some (c, d)) where
+    abbrev below : List Letter
+    below = letters_of d.word.length d.word.digits
 
-    below_spelled : spelled_edge below ≡ true
-    below_spelled = sym r ∙ spelled_in D ds e a.accepted
+    below_spelled : spelled_edge d ≡ true
+    below_spelled = sym (below_parts e c d b).3 ∙ spelled_in D ds e a.accepted
 
-    below_arity : arity (rule_of (store_of ds) (edge_of below)) ≡ n - 1
+    below_upright : edge_of d ≡ upright below (target_of e.target)
+    below_upright = let p = below_parts e c d b in ap₂ (λ (m : Bool) (t : TargetRecord). edge m below (target_of t)) p.0 p.1
+
+    below_arity : arity (rule_of (store_of ds) (edge_of d)) ≡ n - 1
     below_arity =
         let p = arity_record (store_of ds) e ∙ a.marks in
         let o = arity_edge (store_of ds) (edge_of e) in
-        let q = arity_edge (store_of ds) (edge_of below) in
-        let k = ap length l in
+        let q = ap (λ (x : Edge). arity (rule_of (store_of ds) x)) below_upright ∙ arity_edge (store_of ds) (upright below (target_of e.target)) in
+        let k = ap length (below_parts e c d b).2 in
         omega arith
 
-    pub letter_spelled : (spelled_edge (halves_on D (n - 1) c below).0 ≡ true) × (spelled_edge (halves_on D (n - 1) c below).1 ≡ true)
-    letter_spelled = halves_spelled D (n - 1) c below below_spelled
+    pub letter_spelled : (spelled_edge (halves_on D (n - 1) c d).0 ≡ true) × (spelled_edge (halves_on D (n - 1) c d).1 ≡ true)
+    letter_spelled = halves_spelled D (n - 1) c d below_spelled
 
-    pub letter_low : edge_of (halves_on D (n - 1) c below).0 ≡ low_upright D (store_of ds) (edge_of e).word (edge_of e).target
+    pub letter_low : edge_of (halves_on D (n - 1) c d).0 ≡ low_upright D (store_of ds) (edge_of e).word (edge_of e).target
     letter_low =
-        (halves_there D (n - 1) c below).0
-        ∙ ap (λ (m : ℕ). low_of c (flat D m) (edge_of below)) (sym below_arity)
-        ∙ ap (λ (v : List Letter). low_upright D (store_of ds) v (target_of e.target)) (sym l)
+        (halves_there D (n - 1) c d).0
+        ∙ ap (λ (m : ℕ). low_of c (flat D m) (edge_of d)) (sym below_arity)
+        ∙ ap (λ (x : Edge). low_of c (flat D (arity (rule_of (store_of ds) x))) x) below_upright
+        ∙ ap (λ (v : List Letter). low_upright D (store_of ds) v (target_of e.target)) (sym (below_parts e c d b).2)
 
-    pub letter_high : edge_of (halves_on D (n - 1) c below).1 ≡ high_upright D (store_of ds) (edge_of e).word (edge_of e).target
+    pub letter_high : edge_of (halves_on D (n - 1) c d).1 ≡ high_upright D (store_of ds) (edge_of e).word (edge_of e).target
     letter_high =
-        (halves_there D (n - 1) c below).1
-        ∙ ap (λ (m : ℕ). high_of c (flat D m) (edge_of below)) (sym below_arity)
-        ∙ ap (λ (v : List Letter). high_upright D (store_of ds) v (target_of e.target)) (sym l)
+        (halves_there D (n - 1) c d).1
+        ∙ ap (λ (m : ℕ). high_of c (flat D m) (edge_of d)) (sym below_arity)
+        ∙ ap (λ (x : Edge). high_of c (flat D (arity (rule_of (store_of ds) x))) x) below_upright
+        ∙ ap (λ (v : List Letter). high_upright D (store_of ds) v (target_of e.target)) (sym (below_parts e c d b).2)
 
   -- the halves of a diamond
-  pub diamond_low : (k : ℕ) (d : DiamondRecord) → e.length ≡ 0 → e.target ≡ DiamondNumber k →
+  pub diamond_low : (k : ℕ) (d : DiamondRecord) → e.word.length ≡ 0 → e.target ≡ DiamondNumber k →
       edge_of (get_or ds k d).low ≡ low_upright D (store_of ds) (edge_of e).word (edge_of e).target
   diamond_low k d z t =
-      ap (λ (x : Diamond). x.low) (diamond_there ds k d (standing k t)) ∙ sym (ap₂ (λ (m : ℕ) (x : TargetRecord). low_upright D (store_of ds) (letters_of m e.word) (target_of x)) z t)
+      ap (λ (x : Diamond). x.low) (diamond_there ds k d (standing k t)) ∙ sym (ap₂ (λ (m : ℕ) (x : TargetRecord). low_upright D (store_of ds) (letters_of m e.word.digits) (target_of x)) z t)
 
-  pub diamond_high : (k : ℕ) (d : DiamondRecord) → e.length ≡ 0 → e.target ≡ DiamondNumber k →
+  pub diamond_high : (k : ℕ) (d : DiamondRecord) → e.word.length ≡ 0 → e.target ≡ DiamondNumber k →
       edge_of (get_or ds k d).high ≡ high_upright D (store_of ds) (edge_of e).word (edge_of e).target
   diamond_high k d z t =
-      ap (λ (x : Diamond). x.high) (diamond_there ds k d (standing k t)) ∙ sym (ap₂ (λ (m : ℕ) (x : TargetRecord). high_upright D (store_of ds) (letters_of m e.word) (target_of x)) z t)
+      ap (λ (x : Diamond). x.high) (diamond_there ds k d (standing k t)) ∙ sym (ap₂ (λ (m : ℕ) (x : TargetRecord). high_upright D (store_of ds) (letters_of m e.word.digits) (target_of x)) z t)
 
 -- Both halves, under the mark --
 
@@ -178,10 +183,10 @@ module _ (D : Meaning) (law : Lawful D) (ds : List DiamondRecord) (ns : normal D
 pub value_none : (D : Meaning) (ds : List DiamondRecord) (e : EdgeRecord) (x : ℕ) → EdgeOfArity D ds e 0 → end_value e.negated e.target ≡ value (rule_of (store_of ds) (edge_of e)) x
 value_none D ds e x a =
     let m = a.marks in
-    let z : e.length ≡ 0 = omega arith in
+    let z : e.word.length ≡ 0 = omega arith in
     let f : arity (foot (diamond_rule (store_of ds)) (target_of e.target)) ≡ 0 = omega arith in
     let w : rule_of (store_of ds) (edge_of e) ≡ sign e.negated (foot (diamond_rule (store_of ds)) (target_of e.target)) =
-    ap (λ (k : ℕ). sign e.negated (spell (letters_of k e.word) (foot (diamond_rule (store_of ds)) (target_of e.target)))) z in
+    ap (λ (k : ℕ). sign e.negated (spell (letters_of k e.word.digits) (foot (diamond_rule (store_of ds)) (target_of e.target)))) z in
     go e.target e.negated f (λ k t. standing D ds e 0 a k t) ∙ ap (λ (r : Rule). value r x) (sym w)
   where
     go : (t : TargetRecord) (b : Bool) → arity (foot (diamond_rule (store_of ds)) (target_of t)) ≡ 0 → ((k : ℕ) → t ≡ DiamondNumber k → k < length ds) →

@@ -12,8 +12,6 @@ use Rattle.diagram.specs.Acceptance.{Shallow, normal, shallow}
 use Rattle.diagram.specs.Records.{store_of, edge_record, diamonds_of, diamond_record, spelled_diamonds}
 use Rattle.diagram.specs.RecordTheorems.{Answered}
 use Rattle.dialect.specs.declared.profiles.Profile.{Profile}
-use Rattle.unique.specs.Shelf.{diamonds_in}
-use Rattle.unique.proofs.Few.{few_in}
 use Rattle.diagram.proofs.Tests.{tested}
 use Rattle.diagram.proofs.Made.{shallow_read}
 use Rattle.diagram.proofs.Told.{balanced_variable, arity_variable}
@@ -81,5 +79,5 @@ variable_right D ds w n i e es l h p =
     (inserted_right D ds w (variable n i) (balanced_variable n i) (omega arith) e es (sym (variable_answer D ds n i l h) ∙ p)).0
 
 -- what an engine's state holds
-pub state_well : (s : State) → HeldWell s.profile.meaning (diamonds_in s.diamonds)
-state_well s = held_well s.profile (diamonds_in s.diamonds) s.proper s.spelled s.low (few_in s.diamonds)
+pub state_well : (s : State) → HeldWell s.profile.meaning s.diamonds
+state_well s = held_well s.profile s.diamonds s.proper s.spelled s.low s.few

@@ -11,8 +11,7 @@ use Rattle.diagram.specs.Rules.{Rule, negate, connective}
 use Rattle.diagram.specs.Records.{accepted_in, arity_in, other_mark}
 use Rattle.diagram.specs.RecordTheorems.{rule_in, Answered}
 use Rattle.cache.specs.declared.entries.Key.{Key}
-use Rattle.cache.specs.Tables.{table_places, Stands}
-use Rattle.unique.specs.Shelf.{diamonds_in}
+use Rattle.cache.specs.Tables.{Stands}
 use Rattle.engine.specs.declared.states.State.{State}
 use Rattle.engine.specs.declared.combined.Combined.{Combined}
 use Rattle.engine.specs.Steps.{Outcome, inserted, joint, combine_step, answered, negate_step, refused_number, given}
@@ -74,8 +73,8 @@ module _ (D : Meaning) (ds : List Diamond) (c : ℕ) (a b : Edge) where
 -- Maps --
 
 -- what a cache gives with an engine's table is right
-pub remembers_state : (s : State) (gives : Key → Option Edge) → ((k : Key) (e : Edge) → gives k ≡ Some e → Stands (table_places s.table) k e) → Remembers s.profile.meaning (diamonds_in s.diamonds) gives
-remembers_state s gives honest k e p = right_read s.profile.meaning (diamonds_in s.diamonds) (state_well s) k e (s.right k e (honest k e p))
+pub remembers_state : (s : State) (gives : Key → Option Edge) → ((k : Key) (e : Edge) → gives k ≡ Some e → Stands s.table k e) → Remembers s.profile.meaning s.diamonds gives
+remembers_state s gives honest k e p = right_read s.profile.meaning s.diamonds (state_well s) k e (s.right k e (honest k e p))
 
 pub nothing_given : {A : Type 0} (o : Option Edge) → o ≡ None → given o ≡ true → A
 nothing_given None p q = let z : ◌≡◌ {A = ℕ} 0 1 = cc in absurd (omega arith)

@@ -129,7 +129,7 @@ module _ (D : Meaning) (law : Lawful D) (ds : List DiamondRecord) (ns : normal D
       let x = insert_sound D law (store_of ds) ((normal_right D (store_of ds)).0 ns) (variable (n - 1) (i - 1)) (balanced_variable (n - 1) (i - 1)) in
       let a : arity (rule_of before.0 before.1) ≡ n - 1 = ap arity x.rule ∙ arity_variable (n - 1) (i - 1) in
       let b = arity_edge before.0 before.1 in
-      let c : r.length ≡ length before.1.word = ap (λ (e : EdgeRecord). e.length) k in
+      let c : r.word.length ≡ length before.1.word = ap (λ (e : EdgeRecord). e.word.length) k in
       with_letter_there U r (subst (λ (e : EdgeRecord). spelled_edge e ≡ true) (sym k) (edge_spelled before.1)) (omega arith)
 
 -- The calls --
@@ -137,21 +137,15 @@ module _ (D : Meaning) (law : Lawful D) (ds : List DiamondRecord) (ns : normal D
 pub variable_answer : (D : Meaning) (ds : List DiamondRecord) (n i : ℕ) → n ≤ 20 → i < n → variable_step D ds n i ≡ inserted D ds (variable n i)
 variable_answer D ds n i l h = let p = le-leb n 20 l in let q = lt-ltb i n h in simp (p, q)
 
--- the only refusal of what is inserted is that it is too much
-pub refused_full : (ds : List DiamondRecord) (m : Made) (x : Refusal) (xs : List DiamondRecord) → ◌≡◌ {A = Outcome} (Err x, xs) (kept ds m) → x ≡ Full
-refused_full ds m x xs p = go (leb (length m.0) 1024) p
-  where
-    go : (b : Bool) → ◌≡◌ {A = Outcome} (Err x, xs) (cond b (Ok (edge_record m.1), diamonds_of m.0) (Err Full, ds)) → x ≡ Full
-    go true q =
-        let a : Err x ≡ Ok (edge_record m.1) = ap (λ (o : Outcome). o.0) q in
-        let z : ◌≡◌ {A = ℕ} 0 1 = cc in
-        absurd (omega arith)
-    go false q = let a : Err x ≡ Err Full = ap (λ (o : Outcome). o.0) q in cc
-
 -- a number that was answered passed its test, and is the one that was given
 pub passed : (b : Bool) (n m : ℕ) (x : Refusal) → Ok n ≡ cond b (Ok m) (Err x) → (b ≡ true) × (n ≡ m)
 passed true n m x p = (refl, cc)
 passed false n m x p = let z : ◌≡◌ {A = ℕ} 0 1 = cc in absurd (omega arith)
+
+-- and one that was refused did not pass
+pub barred : (b : Bool) (m : ℕ) (x y : Refusal) → Err y ≡ cond b (Ok m) (Err x) → (b ≡ false) × (y ≡ x)
+barred true m x y p = let z : ◌≡◌ {A = ℕ} 0 1 = cc in absurd (omega arith)
+barred false m x y p = (refl, cc)
 
 -- what was inserted for the numbers that passed is the call's outcome
 pub variable_told : (D : Meaning) (ds : List DiamondRecord) (n i m j : ℕ) → (leb n 20 ≡ true) × (m ≡ n) → (ltb i m ≡ true) × (j ≡ i) → inserted D ds (variable m j) ≡ variable_step D ds n i

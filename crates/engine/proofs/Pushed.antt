@@ -1,9 +1,10 @@
 -- A diamond looked up and, if it is not there, pushed.
-use Rattle.std.proofs.Common.{◌≡◌, ℕ, ◌<◌, Bool, true, false, cond, leb, List, [], ◌∷◌, ◌++◌, length, Some, None, Ok, Option, sym, refl, ap, ◌∙◌, arith, length-append}
-use Rattle.std.proofs.lemmas.Bool.{leb-false}
+use Rattle.std.proofs.Common.{◌≡◌, ℕ, ◌<◌, Bool, true, false, cond, leb, List, [], ◌∷◌, ◌++◌, length, Some, None, Ok, Err, Option, sym, refl, ap, ◌∙◌, arith, length-append}
+use Rattle.std.proofs.lemmas.Bool.{leb-true, leb-false}
 use Rattle.diagram.specs.declared.edges.Edge.{Edge}
 use Rattle.diagram.specs.declared.edges.Diamond.{Diamond}
 use Rattle.diagram.specs.declared.meanings.Meaning.{Meaning}
+use Rattle.diagram.specs.declared.refusals.Refusal.TheVariants.{Full}
 use Rattle.diagram.specs.Making.{add, diamond_edge}
 use Rattle.diagram.specs.Records.{edge_of, store_of, edge_record, number_of}
 use Rattle.diagram.proofs.Made.{shallow_read, shallow_met}
@@ -11,7 +12,7 @@ use Rattle.cache.specs.declared.entries.Key.{Key}
 use Rattle.engine.specs.Steps.{Outcome, kept, right_for}
 use Rattle.engine.specs.States.{Joins}
 use Rattle.engine.specs.Laws.{HeldWell}
-use Rattle.engine.proofs.Joining.{add_new, joined_normal, joined_shallow, joined_spelled}
+use Rattle.engine.proofs.Joining.{add_new, add_full, joined_normal, joined_shallow, joined_spelled}
 use Rattle.engine.proofs.Remembered.{right_on, grown_push}
 
 -- the diamonds after a push of d
@@ -50,3 +51,12 @@ module _ (D : Meaning) (ds : List Diamond) (w : HeldWell D ds) (d : Diamond) (j 
             ap (λ (n : ℕ). (Ok (edge_record (diamond_edge n)), xs)) m ∙ ap (λ (ys : List Diamond). (Ok (edge_record (diamond_edge (length ds))), ys)) v
                 ∙ sym (add_new D ds d w.normal.1 j l new),
           )
+
+  pub pushed_full : (xs : List Diamond) → ◌≡◌ {A = Option ℕ} None (cond (leb 1024 (length ds)) None (Some (length ds))) → xs ≡ pushed ds d →
+      ◌≡◌ {A = Outcome} (Err Full, xs) (kept ds (add (store_of ds) (edge_of d.low) (edge_of d.high)))
+  pushed_full xs p q = go (leb 1024 (length ds)) refl p q
+    where
+      go : (b : Bool) → leb 1024 (length ds) ≡ b → ◌≡◌ {A = Option ℕ} None (cond b None (Some (length ds))) → xs ≡ cond b ds (ds ++ (d ∷ [])) →
+          ◌≡◌ {A = Outcome} (Err Full, xs) (kept ds (add (store_of ds) (edge_of d.low) (edge_of d.high)))
+      go true t u v = ap (λ (ys : List Diamond). (Err Full, ys)) v ∙ sym (add_full D ds d w.normal.1 j (leb-true 1024 (length ds) t) new)
+      go false t u v = let z : ◌≡◌ {A = ℕ} 0 1 = cc in absurd (omega arith)

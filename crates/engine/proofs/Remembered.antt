@@ -19,9 +19,8 @@ use Rattle.diagram.proofs.Recording.{normal_of, acceptable_in, spelled_in, accep
 use Rattle.cache.specs.declared.entries.Key.{Key}
 use Rattle.cache.specs.declared.entries.Entry.{Entry}
 use Rattle.cache.specs.declared.tables.Table.{Table}
-use Rattle.cache.specs.Tables.{table_places, Stands}
+use Rattle.cache.specs.Tables.{Stands}
 use Rattle.cache.specs.Caches.{Noted}
-use Rattle.unique.specs.Shelf.{diamonds_in}
 use Rattle.engine.specs.declared.states.State.{State}
 use Rattle.engine.specs.Steps.{Outcome, kept, inserted, joint, combine_step, same_rule, right_for}
 use Rattle.engine.specs.Laws.{HeldWell}
@@ -201,9 +200,9 @@ nothing_stands n k e h =
 
 -- a note of an edge that is right leaves every entry right
 pub noted_right : (s : State) {keeps : Bool} {after : Table} {gave gives : Key → Option Edge} {key : Key} {edge : Edge} → Noted keeps s.table after gave gives key edge →
-    right_for s.profile.meaning (diamonds_in s.diamonds) key edge ≡ true → (k : Key) (e : Edge) → Stands (table_places after) k e → right_for s.profile.meaning (diamonds_in s.diamonds) k e ≡ true
+    right_for s.profile.meaning s.diamonds key edge ≡ true → (k : Key) (e : Edge) → Stands after k e → right_for s.profile.meaning s.diamonds k e ≡ true
 noted_right s {key = key} {edge = edge} n p k e h =
     ⊎_elim
-    (λ (old : Stands (table_places s.table) k e). s.right k e old)
+    (λ (old : Stands s.table k e). s.right k e old)
     (λ (own : (k ≡ key) × (e ≡ edge)). rw (own.0, own.1) p)
     (n.adds k e h)

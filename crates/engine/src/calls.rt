@@ -1,17 +1,16 @@
 // The calls on an engine.
-ghost use Rattle.std.specs.Prelude.{◌≡◌, false, [], length, replicate, IfOk, if◌then◌else◌, None, Ok, Err, ◌==◌, nat_le, nat_lt};
-ghost use Rattle.unique.specs.Shelf.{diamonds_in};
-ghost use Rattle.diagram.specs.declared.refusals.Refusal.TheVariants.{ArityOver, NoVariable};
+ghost use Rattle.std.specs.Prelude.{◌≡◌, false, [], length, replicate, IfOk, if◌then◌else◌, None, Ok, Err, ◌==◌, nat_le};
+ghost use Rattle.diagram.specs.declared.refusals.Refusal.TheVariants.{ArityOver};
 ghost use Rattle.diagram.specs.Rules.{variable};
 ghost use Rattle.diagram.specs.RecordTheorems.{Answered};
 ghost use Rattle.cache.specs.declared.entries.Key.{Key};
-ghost use Rattle.cache.specs.Tables.{table_places};
 ghost use Rattle.engine.specs.Laws.{HeldWell, Remembers};
 ghost use Rattle.engine.specs.Steps.{constant_step, variable_step, evaluate_step, ones_step, diamonds_step, refused_number, map_after};
 
 use crate::counting::assignments;
 use crate::engines::Engine;
 use crate::states::State;
+use basics::arguments::below;
 use cache::caches::Cache;
 use cache::tables::Table;
 use diagram::edges::{Diamond, Edge};
@@ -24,37 +23,16 @@ use unique::tables::UniqueTable;
 fn checked_arity(arity: u32) -> Result<u8, Refusal>
     ensures { result ≡ (if nat_le arity 20 then Ok arity else Err ArityOver) }
 {
-    if arity > 20 {
-        return Err(Refusal::ArityOver);
-    }
-    Ok(arity as u8)
-}
-
-// The number of a mark, which is below the arity.
-fn checked_mark(arity: u8, i: u32) -> Result<u8, Refusal>
-    ensures { result ≡ (if nat_lt i arity then Ok i else Err NoVariable) }
-{
-    if i >= arity as u32 {
-        return Err(Refusal::NoVariable);
-    }
-    Ok(i as u8)
-}
-
-// An empty table with as many places as the cache wants.
-fn new_table<C: Cache>(heap: Global, cache: &C) -> Result<Table, AllocError>
-    ensures { IfOk result (λ t. table_places t ≡ replicate (C.Cache.wants cache.now) None) }
-{
-    Table::new(heap, cache.places())
+    Ok(below(arity, 21, Refusal::ArityOver)? as u8)
 }
 
 impl<C: Cache + Drop> Engine<C> {
     // A new engine of a dialect: no diamonds, and nothing in its cache. Only this call can want memory.
-    pub fn new(heap: Global, profile: Profile, cache: C) -> Result<Engine<C>, AllocError>
-        ensures { IfOk result (λ e. (diamonds_in e.state.diamonds ≡ []) × (e.state.profile ≡ profile) × (length (table_places e.state.table) ≡ C.Cache.wants cache) × ((k : Key) → C.Cache.held e.cache e.state.table k ≡ None)) }
+    pub fn new(heap: Global, profile: Profile, mut cache: C) -> Result<Engine<C>, AllocError>
+        ensures { IfOk result (λ e. (e.state.diamonds ≡ []) × (e.state.profile ≡ profile) × (length e.state.table ≡ C.Cache.wants cache) × ((k : Key) → C.Cache.held e.cache e.state.table k ≡ None)) }
     {
-        let mut cache = cache;
         let diamonds = UniqueTable::new(heap)?;
-        let mut table = new_table(heap, &cache)?;
+        let mut table = Table::new(heap, cache.places())?;
         cache.forget(&mut table);
         let state = State {
             profile,
@@ -67,8 +45,8 @@ impl<C: Cache + Drop> Engine<C> {
     // Says, to whoever calls it, what is true of every engine: its dialect is lawful, its diamonds are normal, of at most 20 marks, and at most 1,024,
     // and the cache gives for each combination none or the edge that the combination answers.
     pub fn law(&self)
-        ensures held { HeldWell self.now.state.profile.meaning (diamonds_in self.now.state.diamonds) }
-        ensures map { Remembers self.now.state.profile.meaning (diamonds_in self.now.state.diamonds) (C.Cache.held self.now.cache self.now.state.table) }
+        ensures held { HeldWell self.now.state.profile.meaning self.now.state.diamonds }
+        ensures map { Remembers self.now.state.profile.meaning self.now.state.diamonds (C.Cache.held self.now.cache self.now.state.table) }
     {}
 
     // The dialect of the engine.
@@ -80,7 +58,7 @@ impl<C: Cache + Drop> Engine<C> {
 
     // The diamonds that the engine holds, diamond k at place k.
     pub fn diamonds(&self) -> &[Diamond]
-        ensures { result.now ≡ diamonds_in self.now.state.diamonds }
+        ensures { result.now ≡ self.now.state.diamonds }
     {
         self.state.diamonds.as_slice()
     }
@@ -88,7 +66,7 @@ impl<C: Cache + Drop> Engine<C> {
     // Forgets what the cache holds.
     pub(crate) fn forget(&mut self)
         ensures state { (self.new.state.diamonds ≡ self.old.state.diamonds) × (self.new.state.profile ≡ self.old.state.profile) }
-        ensures empty { table_places self.new.state.table ≡ replicate (length (table_places self.old.state.table)) None }
+        ensures empty { self.new.state.table ≡ replicate (length self.old.state.table) None }
         ensures map { (k : Key) → C.Cache.held self.new.cache self.new.state.table k ≡ None }
     {
         self.cache.forget(&mut self.state.table);
@@ -96,8 +74,8 @@ impl<C: Cache + Drop> Engine<C> {
 
     // The constant of `arity` marks with this value.
     pub fn constant(&self, arity: u32, value: bool) -> Result<Edge, Refusal>
-        ensures answer { result ≡ (constant_step self.now.state.profile.meaning (diamonds_in self.now.state.diamonds) arity value).0 }
-        ensures diamonds { diamonds_in self.now.state.diamonds ≡ (constant_step self.now.state.profile.meaning (diamonds_in self.now.state.diamonds) arity value).1 }
+        ensures answer { result ≡ (constant_step self.now.state.profile.meaning self.now.state.diamonds arity value).0 }
+        ensures diamonds { self.now.state.diamonds ≡ (constant_step self.now.state.profile.meaning self.now.state.diamonds arity value).1 }
     {
         let n = checked_arity(arity)?;
         Ok(self.state.profile.meaning().constant(n, value))
@@ -105,56 +83,45 @@ impl<C: Cache + Drop> Engine<C> {
 
     // Mark i of `arity` marks: an accepted edge that means it. Edges accepted before stay accepted and mean what they meant.
     pub fn variable(&mut self, arity: u32, i: u32) -> Result<Edge, Refusal>
-        ensures answer { result ≡ (variable_step self.old.state.profile.meaning (diamonds_in self.old.state.diamonds) arity i).0 }
-        ensures diamonds { diamonds_in self.new.state.diamonds ≡ (variable_step self.old.state.profile.meaning (diamonds_in self.old.state.diamonds) arity i).1 }
-        ensures right { IfOk result (λ e. Answered self.old.state.profile.meaning (diamonds_in self.old.state.diamonds) (variable arity i) (diamonds_in self.new.state.diamonds) e) }
+        ensures answer { result ≡ (variable_step self.old.state.profile.meaning self.old.state.diamonds arity i).0 }
+        ensures diamonds { self.new.state.diamonds ≡ (variable_step self.old.state.profile.meaning self.old.state.diamonds arity i).1 }
+        ensures right { IfOk result (λ e. Answered self.old.state.profile.meaning self.old.state.diamonds (variable arity i) self.new.state.diamonds e) }
         ensures profile { self.new.state.profile ≡ self.old.state.profile }
-        ensures long { length (table_places self.new.state.table) ≡ length (table_places self.old.state.table) }
+        ensures long { length self.new.state.table ≡ length self.old.state.table }
         ensures still { (refused_number result == 7) ≡ false → (self.new.cache ≡ self.old.cache) × (self.new.state.table ≡ self.old.state.table) }
         ensures map { (k : Key) → C.Cache.held self.new.cache self.new.state.table k ≡ map_after result (C.Cache.held self.old.cache self.old.state.table k) }
     {
         let n = checked_arity(arity)?;
-        let mark = checked_mark(n, i)?;
-        match self.state.insert_variable(n, mark) {
-            Ok(edge) => Ok(edge),
-            Err(refusal) => {
-                self.forget();
-                Err(refusal)
-            }
+        let i = below(i, n as u32, Refusal::NoVariable)?;
+        let edge = self.state.insert_variable(n, i as u8);
+        if edge.is_err() {
+            self.forget();
         }
+        edge
     }
 
     // The value of an edge at an assignment.
     pub fn evaluate(&self, edge: Edge, assignment: u32) -> Result<bool, Refusal>
-        ensures { result ≡ evaluate_step self.now.state.profile.meaning (diamonds_in self.now.state.diamonds) edge assignment }
+        ensures { result ≡ evaluate_step self.now.state.profile.meaning self.now.state.diamonds edge assignment }
     {
-        if !self.state.accepts(edge) {
-            return Err(Refusal::NotAccepted);
-        }
-        let n = self.state.arity(edge);
-        if assignment >= assignments(n) {
-            return Err(Refusal::AssignmentOver);
-        }
+        let n = self.state.checked(edge)?;
+        let assignment = below(assignment, assignments(n), Refusal::AssignmentOver)?;
         Ok(self.state.value(edge, n, assignment))
     }
 
     // How many assignments give an edge the value 1.
     pub fn ones(&self, edge: Edge) -> Result<u32, Refusal>
-        ensures { result ≡ ones_step self.now.state.profile.meaning (diamonds_in self.now.state.diamonds) edge }
+        ensures { result ≡ ones_step self.now.state.profile.meaning self.now.state.diamonds edge }
     {
-        if !self.state.accepts(edge) {
-            return Err(Refusal::NotAccepted);
-        }
-        Ok(self.state.ones(edge, self.state.arity(edge)))
+        let n = self.state.checked(edge)?;
+        Ok(self.state.ones(edge, n))
     }
 
     // How many diamonds an edge reaches.
     pub fn diamonds_of(&self, edge: Edge) -> Result<usize, Refusal>
-        ensures { result ≡ diamonds_step self.now.state.profile.meaning (diamonds_in self.now.state.diamonds) edge }
+        ensures { result ≡ diamonds_step self.now.state.profile.meaning self.now.state.diamonds edge }
     {
-        if !self.state.accepts(edge) {
-            return Err(Refusal::NotAccepted);
-        }
+        self.state.checked(edge)?;
         Ok(self.state.reached(edge))
     }
 }

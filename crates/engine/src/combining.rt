@@ -8,9 +8,7 @@ ghost use Rattle.diagram.specs.Edges.{sign};
 ghost use Rattle.diagram.specs.Records.{accepted_in, other_mark};
 ghost use Rattle.diagram.specs.RecordTheorems.{rule_in, Answered};
 ghost use Rattle.cache.specs.declared.entries.Key.{Key};
-ghost use Rattle.cache.specs.Tables.{table_places};
 ghost use Rattle.cache.specs.Caches.{Noted};
-ghost use Rattle.unique.specs.Shelf.{diamonds_in};
 ghost use Rattle.engine.specs.Steps.{joint, combine_step, answered, first_answer, negate_step, right_for, given};
 ghost use Rattle.engine.specs.Laws.{HeldWell, MapAfter};
 ghost use Rattle.engine.specs.States.{KeyOfArity, HalfKey, Joined};
@@ -19,26 +17,12 @@ use crate::combined::Combined;
 use crate::engines::Engine;
 use crate::states::State;
 use basics::arguments::{checked_connective, key_of};
-use basics::plain::{plain, turned};
+use basics::plain::Plain;
 use basics::settling::settled;
 use cache::caches::Cache;
 use cache::entries::Key;
 use diagram::edges::Edge;
 use diagram::refusals::Refusal;
-
-// The answer of a combination that the cache found.
-fn found(edge: Edge) -> Combined
-    ensures { result ≡ record { edge = edge; found = true } }
-{
-    Combined { edge, found: true }
-}
-
-// The answer of a combination that was worked out.
-fn worked_out(edge: Edge) -> Combined
-    ensures { result ≡ record { edge = edge; found = false } }
-{
-    Combined { edge, found: false }
-}
 
 // The connective that is the negation of its first operand.
 const NOT_FIRST: u32 = 3;
@@ -53,33 +37,34 @@ impl State {
 
     // The edge with the other mark; refused unless it is accepted.
     fn opposite(&self, edge: Edge) -> Result<Edge, Refusal>
-        ensures { result ≡ (if accepted_in self.now.profile.meaning (diamonds_in self.now.diamonds) edge then Ok (other_mark edge) else Err NotAccepted) }
+        ensures { result ≡ (if accepted_in self.now.profile.meaning self.now.diamonds edge then Ok (other_mark edge) else Err NotAccepted) }
     {
-        if !self.accepts(edge) {
-            return Err(Refusal::NotAccepted);
-        }
+        self.checked(edge)?;
         Ok(edge.flip())
     }
 
     // The combination of the unmarked edges, where the dialect negates, and whether this one is its negation.
-    fn plain(&self, key: Key, n: u8) -> (Key, bool)
-        requires { KeyOfArity self.now.profile.meaning (diamonds_in self.now.diamonds) key n }
-        ensures key { KeyOfArity self.now.profile.meaning (diamonds_in self.now.diamonds) result.0 n }
-        ensures mark { result.1 ≡ true → self.now.profile.meaning.negates ≡ true }
-        ensures rule { joint (diamonds_in self.now.diamonds) key.connective key.left key.right ≡ sign result.1 (joint (diamonds_in self.now.diamonds) result.0.connective result.0.left result.0.right) }
+    fn plain(&self, key: Key, n: u8) -> Plain
+        requires { KeyOfArity self.now.profile.meaning self.now.diamonds key n }
+        ensures key { KeyOfArity self.now.profile.meaning self.now.diamonds result.key n }
+        ensures mark { result.negated ≡ true → self.now.profile.meaning.negates ≡ true }
+        ensures rule { joint self.now.diamonds key.connective key.left key.right ≡ sign result.negated (joint self.now.diamonds result.key.connective result.key.left result.key.right) }
     {
         if self.negates() {
-            plain(key)
+            Plain::of(key)
         } else {
-            (key, false)
+            Plain {
+                key,
+                negated: false,
+            }
         }
     }
 
     // Takes back all diamonds but the first `count`; the table is empty.
     fn cut(&mut self, count: usize)
-        requires well { HeldWell self.old.profile.meaning (take count (diamonds_in self.old.diamonds)) }
-        requires empty { table_places self.old.table ≡ replicate (length (table_places self.old.table)) None }
-        ensures diamonds { diamonds_in self.new.diamonds ≡ take count (diamonds_in self.old.diamonds) }
+        requires well { HeldWell self.old.profile.meaning (take count self.old.diamonds) }
+        requires empty { self.old.table ≡ replicate (length self.old.table) None }
+        ensures diamonds { self.new.diamonds ≡ take count self.old.diamonds }
         ensures profile { self.new.profile ≡ self.old.profile }
         ensures table { self.new.table ≡ self.old.table }
     {
@@ -88,10 +73,10 @@ impl State {
 
     // The combination of the low or the high halves of the edges of n marks, n not 0.
     fn half_key(&self, key: Key, n: u8, high: bool) -> Key
-        requires key { KeyOfArity self.now.profile.meaning (diamonds_in self.now.diamonds) key n }
+        requires key { KeyOfArity self.now.profile.meaning self.now.diamonds key n }
         requires some { 0 < n }
-        ensures key { KeyOfArity self.now.profile.meaning (diamonds_in self.now.diamonds) result (n - 1) }
-        ensures half { HalfKey self.now.profile.meaning (diamonds_in self.now.diamonds) key high result }
+        ensures key { KeyOfArity self.now.profile.meaning self.now.diamonds result (n - 1) }
+        ensures half { HalfKey self.now.profile.meaning self.now.diamonds key high result }
     {
         Key {
             connective: key.connective,
@@ -104,20 +89,20 @@ impl State {
 impl<C: Cache + Drop> Engine<C> {
     // Notes an edge that is right for a key.
     fn note(&mut self, key: Key, edge: Edge)
-        requires { right_for self.old.state.profile.meaning (diamonds_in self.old.state.diamonds) key edge ≡ true }
+        requires { right_for self.old.state.profile.meaning self.old.state.diamonds key edge ≡ true }
         ensures state { (self.new.state.diamonds ≡ self.old.state.diamonds) × (self.new.state.profile ≡ self.old.state.profile) }
-        ensures noted { Noted C.Cache.keeps self.old.state.table self.new.state.table (C.Cache.held self.old.cache self.old.state.table) (C.Cache.held self.new.cache self.new.state.table) key edge }
+        ensures noted { Noted C.Cache.KEEPS self.old.state.table self.new.state.table (C.Cache.held self.old.cache self.old.state.table) (C.Cache.held self.new.cache self.new.state.table) key edge }
     {
         self.cache.note(&mut self.state.table, key, edge);
     }
 
     // The combination of two edges of n marks: settled, or found, or made from those of the halves.
     fn join(&mut self, key: Key, n: u8) -> Result<Edge, Refusal>
-        requires { KeyOfArity self.old.state.profile.meaning (diamonds_in self.old.state.diamonds) key n }
-        ensures joined { Joined self.old.state.profile.meaning (diamonds_in self.old.state.diamonds) (joint (diamonds_in self.old.state.diamonds) key.connective key.left key.right) result (diamonds_in self.new.state.diamonds) }
-        ensures right { IfOk result (λ e. right_for self.new.state.profile.meaning (diamonds_in self.new.state.diamonds) key e ≡ true) }
+        requires { KeyOfArity self.old.state.profile.meaning self.old.state.diamonds key n }
+        ensures joined { Joined self.old.state.profile.meaning self.old.state.diamonds (joint self.old.state.diamonds key.connective key.left key.right) result self.new.state.diamonds }
+        ensures right { IfOk result (λ e. right_for self.new.state.profile.meaning self.new.state.diamonds key e ≡ true) }
         ensures profile { self.new.state.profile ≡ self.old.state.profile }
-        ensures long { length (table_places self.new.state.table) ≡ length (table_places self.old.state.table) }
+        ensures long { length self.new.state.table ≡ length self.old.state.table }
     {
         if let Some(edge) = settled(self.state.profile.meaning(), key, n) {
             return Ok(edge);
@@ -127,23 +112,23 @@ impl<C: Cache + Drop> Engine<C> {
         }
         let low_key = self.state.half_key(key, n, false);
         let high_key = self.state.half_key(key, n, true);
-        let (low_plain, low_mark) = self.state.plain(low_key, n - 1);
-        let (high_plain, high_mark) = self.state.plain(high_key, n - 1);
-        let low = self.join(low_plain, n - 1)?;
-        let high = self.join(high_plain, n - 1)?;
+        let low_plain = self.state.plain(low_key, n - 1);
+        let high_plain = self.state.plain(high_key, n - 1);
+        let low = self.join(low_plain.key, n - 1)?;
+        let high = self.join(high_plain.key, n - 1)?;
         let edge = self
             .state
-            .make(turned(low, low_mark), turned(high, high_mark))?;
+            .make(low_plain.restore(low), high_plain.restore(high))?;
         self.note(key, edge);
         Ok(edge)
     }
 
     // Takes back all diamonds but the first `count`, and forgets what the cache holds.
     fn take_back(&mut self, count: usize)
-        requires { HeldWell self.old.state.profile.meaning (take count (diamonds_in self.old.state.diamonds)) }
-        ensures diamonds { diamonds_in self.new.state.diamonds ≡ take count (diamonds_in self.old.state.diamonds) }
+        requires { HeldWell self.old.state.profile.meaning (take count self.old.state.diamonds) }
+        ensures diamonds { self.new.state.diamonds ≡ take count self.old.state.diamonds }
         ensures profile { self.new.state.profile ≡ self.old.state.profile }
-        ensures long { length (table_places self.new.state.table) ≡ length (table_places self.old.state.table) }
+        ensures long { length self.new.state.table ≡ length self.old.state.table }
         ensures map { (k : Key) → C.Cache.held self.new.cache self.new.state.table k ≡ None }
     {
         self.forget();
@@ -152,26 +137,26 @@ impl<C: Cache + Drop> Engine<C> {
 
     // The connective of two edges, and whether the cache found it: the bits of worth 1, 2, 4 and 8 of the connective's number are its values at (0,0), (0,1), (1,0) and (1,1).
     pub fn combine(&mut self, connective: u32, a: Edge, b: Edge) -> Result<Combined, Refusal>
-        ensures answer { result ≡ answered (given (C.Cache.held self.old.cache self.old.state.table (record { connective = connective; left = a; right = b }))) (combine_step self.old.state.profile.meaning (diamonds_in self.old.state.diamonds) connective a b).0 }
-        ensures diamonds { diamonds_in self.new.state.diamonds ≡ (combine_step self.old.state.profile.meaning (diamonds_in self.old.state.diamonds) connective a b).1 }
-        ensures right { IfOk result (λ x. Answered self.old.state.profile.meaning (diamonds_in self.old.state.diamonds) (joint (diamonds_in self.old.state.diamonds) connective a b) (diamonds_in self.new.state.diamonds) x.edge) }
+        ensures answer { result ≡ answered (given (C.Cache.held self.old.cache self.old.state.table (record { connective = connective; left = a; right = b }))) (combine_step self.old.state.profile.meaning self.old.state.diamonds connective a b).0 }
+        ensures diamonds { self.new.state.diamonds ≡ (combine_step self.old.state.profile.meaning self.old.state.diamonds connective a b).1 }
+        ensures right { IfOk result (λ x. Answered self.old.state.profile.meaning self.old.state.diamonds (joint self.old.state.diamonds connective a b) self.new.state.diamonds x.edge) }
         ensures profile { self.new.state.profile ≡ self.old.state.profile }
-        ensures long { length (table_places self.new.state.table) ≡ length (table_places self.old.state.table) }
+        ensures long { length self.new.state.table ≡ length self.old.state.table }
         ensures found { given (C.Cache.held self.old.cache self.old.state.table (record { connective = connective; left = a; right = b })) ≡ true → (self.new.state.diamonds ≡ self.old.state.diamonds) × (self.new.state.table ≡ self.old.state.table) }
         ensures still { (x : Refusal) → result ≡ Err x → (refusal_number x == 7) ≡ false → (self.new.cache ≡ self.old.cache) × (self.new.state.table ≡ self.old.state.table) }
-        ensures map { MapAfter C.Cache.keeps self.old.state.profile.meaning (diamonds_in self.new.state.diamonds) (record { connective = connective; left = a; right = b }) (combine_step self.old.state.profile.meaning (diamonds_in self.old.state.diamonds) connective a b).0 (C.Cache.held self.old.cache self.old.state.table) (C.Cache.held self.new.cache self.new.state.table) }
+        ensures map { MapAfter C.Cache.KEEPS self.old.state.profile.meaning self.new.state.diamonds (record { connective = connective; left = a; right = b }) (combine_step self.old.state.profile.meaning self.old.state.diamonds connective a b).0 (C.Cache.held self.old.cache self.old.state.table) (C.Cache.held self.new.cache self.new.state.table) }
     {
         let connective = checked_connective(connective)?;
         let n = self.state.checked_pair(a, b)?;
         let key = key_of(connective, a, b);
         if let Some(edge) = self.cache.find(&self.state.table, key) {
-            return Ok(found(edge));
+            return Ok(Combined { edge, found: true });
         }
         let count = self.state.diamonds.len();
         match self.join(key, n) {
             Ok(edge) => {
                 self.note(key, edge);
-                Ok(worked_out(edge))
+                Ok(Combined { edge, found: false })
             }
             Err(refusal) => {
                 self.take_back(count);
@@ -187,16 +172,16 @@ impl<C: Cache + Drop> Engine<C> {
         a: Edge,
         b: Edge,
     ) -> Result<(Combined, Combined), Refusal>
-        ensures answer { first_answer result ≡ answered (given (C.Cache.held self.old.cache self.old.state.table (record { connective = connective; left = a; right = b }))) (combine_step self.old.state.profile.meaning (diamonds_in self.old.state.diamonds) connective a b).0 }
+        ensures answer { first_answer result ≡ answered (given (C.Cache.held self.old.cache self.old.state.table (record { connective = connective; left = a; right = b }))) (combine_step self.old.state.profile.meaning self.old.state.diamonds connective a b).0 }
         ensures same { IfOk result (λ p. p.1.edge ≡ p.0.edge) }
-        ensures again { C.Cache.keeps ≡ true → IfOk result (λ p. p.1.found ≡ true) }
+        ensures again { C.Cache.KEEPS ≡ true → IfOk result (λ p. p.1.found ≡ true) }
         ensures after { IfOk result (λ p. p.0.found ≡ true → p.1.found ≡ true) }
         ensures gives { IfOk result (λ p. p.1.found ≡ true → given (C.Cache.held self.new.cache self.new.state.table (record { connective = connective; left = a; right = b })) ≡ true) }
-        ensures diamonds { diamonds_in self.new.state.diamonds ≡ (combine_step self.old.state.profile.meaning (diamonds_in self.old.state.diamonds) connective a b).1 }
+        ensures diamonds { self.new.state.diamonds ≡ (combine_step self.old.state.profile.meaning self.old.state.diamonds connective a b).1 }
         ensures profile { self.new.state.profile ≡ self.old.state.profile }
-        ensures long { length (table_places self.new.state.table) ≡ length (table_places self.old.state.table) }
+        ensures long { length self.new.state.table ≡ length self.old.state.table }
         ensures still { (x : Refusal) → result ≡ Err x → (refusal_number x == 7) ≡ false → (self.new.cache ≡ self.old.cache) × (self.new.state.table ≡ self.old.state.table) }
-        ensures map { MapAfter C.Cache.keeps self.old.state.profile.meaning (diamonds_in self.new.state.diamonds) (record { connective = connective; left = a; right = b }) (combine_step self.old.state.profile.meaning (diamonds_in self.old.state.diamonds) connective a b).0 (C.Cache.held self.old.cache self.old.state.table) (C.Cache.held self.new.cache self.new.state.table) }
+        ensures map { MapAfter C.Cache.KEEPS self.old.state.profile.meaning self.new.state.diamonds (record { connective = connective; left = a; right = b }) (combine_step self.old.state.profile.meaning self.old.state.diamonds connective a b).0 (C.Cache.held self.old.cache self.old.state.table) (C.Cache.held self.new.cache self.new.state.table) }
     {
         let first = self.combine(connective, a, b)?;
         let second = self.combine(connective, a, b)?;
@@ -205,15 +190,15 @@ impl<C: Cache + Drop> Engine<C> {
 
     // The negation of an edge: the other mark where the dialect negates, else the combination of the edge with itself by connective 3, whose value is the negation of the first.
     pub fn negate(&mut self, edge: Edge) -> Result<Edge, Refusal>
-        ensures answer { result ≡ (negate_step self.old.state.profile.meaning (diamonds_in self.old.state.diamonds) edge).0 }
-        ensures diamonds { diamonds_in self.new.state.diamonds ≡ (negate_step self.old.state.profile.meaning (diamonds_in self.old.state.diamonds) edge).1 }
-        ensures right { IfOk result (λ e. Answered self.old.state.profile.meaning (diamonds_in self.old.state.diamonds) (negate (rule_in (diamonds_in self.old.state.diamonds) edge)) (diamonds_in self.new.state.diamonds) e) }
-        ensures marked { self.old.state.profile.meaning.negates ≡ true → result ≡ (if accepted_in self.old.state.profile.meaning (diamonds_in self.old.state.diamonds) edge then Ok (other_mark edge) else Err NotAccepted) }
+        ensures answer { result ≡ (negate_step self.old.state.profile.meaning self.old.state.diamonds edge).0 }
+        ensures diamonds { self.new.state.diamonds ≡ (negate_step self.old.state.profile.meaning self.old.state.diamonds edge).1 }
+        ensures right { IfOk result (λ e. Answered self.old.state.profile.meaning self.old.state.diamonds (negate (rule_in self.old.state.diamonds edge)) self.new.state.diamonds e) }
+        ensures marked { self.old.state.profile.meaning.negates ≡ true → result ≡ (if accepted_in self.old.state.profile.meaning self.old.state.diamonds edge then Ok (other_mark edge) else Err NotAccepted) }
         ensures profile { self.new.state.profile ≡ self.old.state.profile }
-        ensures long { length (table_places self.new.state.table) ≡ length (table_places self.old.state.table) }
+        ensures long { length self.new.state.table ≡ length self.old.state.table }
         ensures alone { self.old.state.profile.meaning.negates ≡ true → (self.new.state.diamonds ≡ self.old.state.diamonds) × (self.new.cache ≡ self.old.cache) × (self.new.state.table ≡ self.old.state.table) }
         ensures still { (x : Refusal) → result ≡ Err x → (refusal_number x == 7) ≡ false → (self.new.cache ≡ self.old.cache) × (self.new.state.table ≡ self.old.state.table) }
-        ensures map { self.old.state.profile.meaning.negates ≡ false → MapAfter C.Cache.keeps self.old.state.profile.meaning (diamonds_in self.new.state.diamonds) (record { connective = 3; left = edge; right = edge }) (negate_step self.old.state.profile.meaning (diamonds_in self.old.state.diamonds) edge).0 (C.Cache.held self.old.cache self.old.state.table) (C.Cache.held self.new.cache self.new.state.table) }
+        ensures map { self.old.state.profile.meaning.negates ≡ false → MapAfter C.Cache.KEEPS self.old.state.profile.meaning self.new.state.diamonds (record { connective = 3; left = edge; right = edge }) (negate_step self.old.state.profile.meaning self.old.state.diamonds edge).0 (C.Cache.held self.old.cache self.old.state.table) (C.Cache.held self.new.cache self.new.state.table) }
     {
         if self.state.negates() {
             return self.state.opposite(edge);

@@ -1,6 +1,5 @@
 // Diamonds looked up and added, and edges made from two halves.
-ghost use Rattle.std.specs.Prelude.{◌≡◌, ◌<◌, ◌≤◌, true, nat_le};
-ghost use Rattle.unique.specs.Shelf.{diamonds_in};
+ghost use Rattle.std.specs.Prelude.{◌≡◌, ◌<◌, ◌≤◌};
 ghost use Rattle.diagram.specs.Rules.{variable};
 ghost use Rattle.diagram.specs.Making.{add, make, diamond_edge};
 ghost use Rattle.diagram.specs.Records.{edge_of, store_of, edge_record};
@@ -8,19 +7,9 @@ ghost use Rattle.engine.specs.States.{HalvesFit, Joins};
 ghost use Rattle.engine.specs.Steps.{kept, inserted};
 
 use crate::states::State;
-use diagram::edges::{Diamond, Edge, Target};
+use diagram::edges::{Diamond, Edge, Target, Word};
 use diagram::letters::Letter;
 use diagram::refusals::Refusal;
-
-// How many diamonds an engine holds at most.
-pub const ROOM: usize = 1024;
-
-// Whether so many diamonds are as many as an engine holds.
-fn is_full(count: usize) -> bool
-    ensures { result ≡ nat_le 1024 count }
-{
-    count >= ROOM
-}
 
 // The edge to the diamond k.
 fn edge_to(k: usize) -> Edge
@@ -29,8 +18,10 @@ fn edge_to(k: usize) -> Edge
 {
     Edge {
         negated: false,
-        length: 0,
-        word: 0,
+        word: Word {
+            length: 0,
+            digits: 0,
+        },
         target: Target::Diamond(k as u16),
     }
 }
@@ -38,26 +29,22 @@ fn edge_to(k: usize) -> Edge
 impl State {
     // The edge to a diamond: the one that stands, or a new one under the next number.
     pub(crate) fn add(&mut self, diamond: Diamond) -> Result<Edge, Refusal>
-        requires { Joins self.old.profile.meaning (diamonds_in self.old.diamonds) diamond }
-        ensures outcome { (result, diamonds_in self.new.diamonds) ≡ kept (diamonds_in self.old.diamonds) (add (store_of (diamonds_in self.old.diamonds)) (edge_of diamond.low) (edge_of diamond.high)) }
+        requires { Joins self.old.profile.meaning self.old.diamonds diamond }
+        ensures outcome { (result, self.new.diamonds) ≡ kept self.old.diamonds (add (store_of self.old.diamonds) (edge_of diamond.low) (edge_of diamond.high)) }
         ensures profile { self.new.profile ≡ self.old.profile }
         ensures table { self.new.table ≡ self.old.table }
     {
-        if let Some(k) = self.diamonds.number(diamond) {
-            return Ok(edge_to(k));
-        }
-        let k = self.diamonds.len();
-        if is_full(k) {
-            return Err(Refusal::Full);
-        }
-        self.diamonds.push(diamond);
+        let k = match self.diamonds.number(diamond) {
+            Some(k) => k,
+            None => self.diamonds.push(diamond).ok_or(Refusal::Full)?,
+        };
         Ok(edge_to(k))
     }
 
     // The edge made from two halves: by the dialect's letter, or else by a diamond.
     pub(crate) fn make(&mut self, low: Edge, high: Edge) -> Result<Edge, Refusal>
-        requires { HalvesFit self.old.profile.meaning (diamonds_in self.old.diamonds) low high }
-        ensures outcome { (result, diamonds_in self.new.diamonds) ≡ kept (diamonds_in self.old.diamonds) (make self.old.profile.meaning (store_of (diamonds_in self.old.diamonds)) (edge_of low) (edge_of high)) }
+        requires { HalvesFit self.old.profile.meaning self.old.diamonds low high }
+        ensures outcome { (result, self.new.diamonds) ≡ kept self.old.diamonds (make self.old.profile.meaning (store_of self.old.diamonds) (edge_of low) (edge_of high)) }
         ensures profile { self.new.profile ≡ self.old.profile }
         ensures table { self.new.table ≡ self.old.table }
     {
@@ -78,7 +65,7 @@ impl State {
     pub(crate) fn insert_variable(&mut self, n: u8, i: u8) -> Result<Edge, Refusal>
         requires below { i < n }
         requires short { n ≤ 20 }
-        ensures outcome { (result, diamonds_in self.new.diamonds) ≡ inserted self.old.profile.meaning (diamonds_in self.old.diamonds) (variable n i) }
+        ensures outcome { (result, self.new.diamonds) ≡ inserted self.old.profile.meaning self.old.diamonds (variable n i) }
         ensures profile { self.new.profile ≡ self.old.profile }
         ensures table { self.new.table ≡ self.old.table }
     {

@@ -1,6 +1,5 @@
 // The halves of an edge, and its values.
 ghost use Rattle.std.specs.Prelude.{◌≡◌, ◌-◌, ◌%◌, ◌<◌, true, if◌then◌else◌, ◌==◌};
-ghost use Rattle.unique.specs.Shelf.{diamonds_in};
 ghost use Rattle.diagram.specs.Rules.{value};
 ghost use Rattle.diagram.specs.Edges.{rule_of};
 ghost use Rattle.diagram.specs.Making.{low_upright, high_upright};
@@ -9,7 +8,6 @@ ghost use Rattle.engine.specs.States.{EdgeOfArity, half_at, end_value};
 
 use crate::states::State;
 use diagram::edges::{Edge, Target};
-use diagram::words::peel;
 
 // The high one of two halves, or the low one.
 fn pick(halves: (Edge, Edge), high: bool) -> Edge
@@ -38,22 +36,14 @@ fn first_mark(assignment: u32) -> bool
 impl State {
     // The two halves of an unmarked edge of n marks, n not 0.
     fn upright_halves(&self, edge: Edge, n: u8) -> (Edge, Edge)
-        requires edge { EdgeOfArity self.now.profile.meaning (diamonds_in self.now.diamonds) edge n }
+        requires edge { EdgeOfArity self.now.profile.meaning self.now.diamonds edge n }
         requires some { 0 < n }
         ensures spelled { (spelled_edge result.0 ≡ true) × (spelled_edge result.1 ≡ true) }
-        ensures low { edge_of result.0 ≡ low_upright self.now.profile.meaning (store_of (diamonds_in self.now.diamonds)) (edge_of edge).word (edge_of edge).target }
-        ensures high { edge_of result.1 ≡ high_upright self.now.profile.meaning (store_of (diamonds_in self.now.diamonds)) (edge_of edge).word (edge_of edge).target }
+        ensures low { edge_of result.0 ≡ low_upright self.now.profile.meaning (store_of self.now.diamonds) (edge_of edge).word (edge_of edge).target }
+        ensures high { edge_of result.1 ≡ high_upright self.now.profile.meaning (store_of self.now.diamonds) (edge_of edge).word (edge_of edge).target }
     {
-        match peel(edge.length, edge.word) {
-            Some((letter, word)) => {
-                let below = Edge {
-                    negated: false,
-                    length: edge.length - 1,
-                    word,
-                    target: edge.target,
-                };
-                self.profile.meaning().halves_on(n - 1, letter, below)
-            }
+        match edge.below() {
+            Some((letter, below)) => self.profile.meaning().halves_on(n - 1, letter, below),
             None => match edge.target {
                 Target::Diamond(k) => {
                     let diamond = self.diamonds.as_slice()[k as usize];
@@ -66,10 +56,10 @@ impl State {
 
     // The low or the high half of an edge of n marks, n not 0.
     pub(crate) fn half(&self, edge: Edge, n: u8, high: bool) -> Edge
-        requires edge { EdgeOfArity self.now.profile.meaning (diamonds_in self.now.diamonds) edge n }
+        requires edge { EdgeOfArity self.now.profile.meaning self.now.diamonds edge n }
         requires some { 0 < n }
-        ensures edge { EdgeOfArity self.now.profile.meaning (diamonds_in self.now.diamonds) result (n - 1) }
-        ensures half { edge_of result ≡ half_at high self.now.profile.meaning (store_of (diamonds_in self.now.diamonds)) (edge_of edge) }
+        ensures edge { EdgeOfArity self.now.profile.meaning self.now.diamonds result (n - 1) }
+        ensures half { edge_of result ≡ half_at high self.now.profile.meaning (store_of self.now.diamonds) (edge_of edge) }
     {
         let half = pick(self.upright_halves(edge, n), high);
         if edge.negated { half.flip() } else { half }
@@ -77,8 +67,8 @@ impl State {
 
     // The value of an edge of n marks at an assignment.
     pub(crate) fn value(&self, edge: Edge, n: u8, assignment: u32) -> bool
-        requires { EdgeOfArity self.now.profile.meaning (diamonds_in self.now.diamonds) edge n }
-        ensures { result ≡ value (rule_of (store_of (diamonds_in self.now.diamonds)) (edge_of edge)) assignment }
+        requires { EdgeOfArity self.now.profile.meaning self.now.diamonds edge n }
+        ensures { result ≡ value (rule_of (store_of self.now.diamonds) (edge_of edge)) assignment }
     {
         if n == 0 {
             return end_value(edge);

@@ -3,6 +3,7 @@
 
 use cache::slot::Slot;
 use diagram::edges::Edge;
+use diagram::refusals::Refusal;
 use dialect::builtin::{Dialect1, Dialect5};
 use dialect::profiles::Profile;
 use engine::engines::Engine;
@@ -18,32 +19,34 @@ fn main(rt: HostRuntime) -> anyhow::Result<()> {
     build_all(&rt)
 }
 
-fn build_all(rt: &HostRuntime) -> anyhow::Result<()> {
-    build_pairs(
-        rt,
-        Engine::new(rt.alloc(), Profile::of::<Dialect1>(), Slot)?,
-    )?;
-    build_pairs(
-        rt,
-        Engine::new(rt.alloc(), Profile::of::<Dialect5>(), Slot)?,
-    )?;
-    build_parity(
-        rt,
-        Engine::new(rt.alloc(), Profile::of::<Dialect1>(), Slot)?,
-    )?;
-    build_parity(
-        rt,
-        Engine::new(rt.alloc(), Profile::of::<Dialect5>(), Slot)?,
-    )?;
+fn build_all(rt: &(impl Print + AllocGlobal)) -> anyhow::Result<()> {
+    build_in_both(rt, "x0 x1 or x2 x3 or .. or x18 x19", pairs)?;
+    build_in_both(rt, "x0 xor x1 xor .. xor x19", parity)?;
     build_too_many(
         rt,
         Engine::new(rt.alloc(), Profile::of::<Dialect5>(), Slot)?,
     )
 }
 
+// Builds a rule in new engines of dialects 1 and 5, and prints it.
+fn build_in_both<F: Fn(&mut Engine<Slot>) -> Result<Edge, Refusal>>(
+    rt: &(impl Print + AllocGlobal),
+    name: &str,
+    build: F,
+) -> anyhow::Result<()>
+    requires { F.IsAlwaysCallable build }
+{
+    for profile in [Profile::of::<Dialect1>(), Profile::of::<Dialect5>()] {
+        let mut engine = Engine::new(rt.alloc(), profile, Slot)?;
+        let rule = build(&mut engine)?;
+        print_rule(rt, &engine, name, rule)?;
+    }
+    Ok(())
+}
+
 // Prints a rule's edge, ones and diamonds, and how many diamonds the engine holds.
 fn print_rule(
-    rt: &HostRuntime,
+    rt: &impl Print,
     engine: &Engine<Slot>,
     name: &str,
     edge: Edge,
@@ -56,49 +59,47 @@ fn print_rule(
     Ok(())
 }
 
+// Marks i and j together.
+fn pair(engine: &mut Engine<Slot>, i: u32, j: u32) -> Result<Edge, Refusal> {
+    let first = engine.variable(20, i)?;
+    let second = engine.variable(20, j)?;
+    Ok(engine.combine(AND, first, second)?.edge)
+}
+
 // Marks 0 and 1, or marks 2 and 3, and so on to marks 18 and 19.
-fn build_pairs(rt: &HostRuntime, engine: Engine<Slot>) -> anyhow::Result<()> {
-    let mut engine = engine;
+fn pairs(engine: &mut Engine<Slot>) -> Result<Edge, Refusal> {
     let mut rule = engine.constant(20, false)?;
     for i in 0..10 {
-        let first = engine.variable(20, 2 * i)?;
-        let second = engine.variable(20, 2 * i + 1)?;
-        let both = engine.combine(AND, first, second)?.edge;
+        let both = pair(engine, 2 * i, 2 * i + 1)?;
         rule = engine.combine(OR, rule, both)?.edge;
     }
-    print_rule(rt, &engine, "x0 x1 or x2 x3 or .. or x18 x19", rule)
+    Ok(rule)
 }
 
 // Whether an odd number of the marks is 1.
-fn build_parity(rt: &HostRuntime, engine: Engine<Slot>) -> anyhow::Result<()> {
-    let mut engine = engine;
+fn parity(engine: &mut Engine<Slot>) -> Result<Edge, Refusal> {
     let mut rule = engine.constant(20, false)?;
     for i in 0..20 {
         let mark = engine.variable(20, i)?;
         rule = engine.combine(XOR, rule, mark)?.edge;
     }
-    print_rule(rt, &engine, "x0 xor x1 xor .. xor x19", rule)
+    Ok(rule)
 }
 
 // Marks 0 and 10, xor marks 1 and 11, and so on: each further pair takes twice as many diamonds and two more, until there is no room.
-fn build_too_many(rt: &HostRuntime, engine: Engine<Slot>) -> anyhow::Result<()> {
-    let mut engine = engine;
+fn build_too_many(rt: &impl Print, mut engine: Engine<Slot>) -> anyhow::Result<()> {
     let mut rule = engine.constant(20, false)?;
     for i in 0..10 {
-        let first = engine.variable(20, i)?;
-        let second = engine.variable(20, i + 10)?;
-        let both = engine.combine(AND, first, second)?.edge;
-        match engine.combine(XOR, rule, both) {
+        let both = pair(&mut engine, i, i + 10)?;
+        let answer = engine.combine(XOR, rule, both);
+        let held = engine.diamonds().len();
+        match answer {
             Ok(combined) => {
                 rule = combined.edge;
                 let diamonds = engine.diamonds_of(rule)?;
-                let held = engine.diamonds().len();
                 println!(rt; "pairs 0 to {i}: {diamonds} diamonds, {held} held")?;
             }
-            Err(refusal) => {
-                let held = engine.diamonds().len();
-                println!(rt; "pairs 0 to {i}: {refusal}, {held} held")?;
-            }
+            Err(refusal) => println!(rt; "pairs 0 to {i}: {refusal}, {held} held")?,
         }
     }
     Ok(())

@@ -1,3 +1,1 @@
-pub mod Few
-pub mod Chained
-pub mod Fronts
+pub mod Numbered

@@ -1,56 +1,65 @@
 // Adding diamonds, and taking them back.
-ghost use Rattle.std.specs.Prelude.{◌≡◌, ◌-◌, leb, [], ◌∷◌, ◌++◌, length, take, if◌then◌else◌, Some, None, nat_le, nat_lt};
-ghost use Rattle.unique.specs.Shelf.{diamonds_in};
+ghost use Rattle.std.specs.Prelude.{◌≡◌, ◌+◌, ◌<◌, ◌≤◌, leb, List, [], ◌∷◌, ◌++◌, length, take, if◌then◌else◌, Some, None};
+ghost use Rattle.std.specs.HashMap.{hash_map_len, spare};
+ghost use Rattle.diagram.specs.declared.edges.Diamond.{Diamond};
+ghost use Rattle.unique.specs.Index.{IsNumbering};
 
-use crate::chains::{chain, unchain};
 use crate::finding::ROOM;
 use crate::tables::UniqueTable;
 use diagram::edges::Diamond;
+use std::collections::HashMap;
 
-// Whether so many diamonds are as many as a table holds.
-fn is_full(count: usize) -> bool
-    ensures { result ≡ nat_le 1024 count }
+// Notes the number of a diamond, the last one that stands; a map with room for 1,024 does not want memory for it.
+fn note(numbers: &mut HashMap<Diamond, u16>, diamond: Diamond, k: u16)
+    requires few { hash_map_len numbers.old < 1024 }
+    requires spare { 1024 ≤ hash_map_len numbers.old + spare numbers.old }
+    ensures numbering { (ds : List Diamond) → length ds ≡ k → IsNumbering numbers.old ds → IsNumbering numbers.new (ds ++ (diamond ∷ [])) }
+    ensures spare { 1024 ≤ hash_map_len numbers.new + spare numbers.new }
 {
-    count >= ROOM
+    match numbers.get_mut(&diamond) {
+        Some(number) => *number = k,
+        None => {
+            let added: Result<_, _> = numbers.insert(diamond, k);
+            added.unwrap();
+        }
+    }
 }
 
-// Whether there are more than so many diamonds.
-fn is_over(count: usize, limit: usize) -> bool
-    ensures { result ≡ nat_lt limit count }
+// Numbers the diamonds anew, in the memory that the map has.
+fn renumber(numbers: &mut HashMap<Diamond, u16>, diamonds: &[Diamond])
+    requires few { length diamonds.now ≤ 1024 }
+    requires spare { 1024 ≤ hash_map_len numbers.old + spare numbers.old }
+    ensures numbering { IsNumbering numbers.new diamonds.now }
+    ensures spare { 1024 ≤ hash_map_len numbers.new + spare numbers.new }
 {
-    count > limit
+    numbers.clear();
+    for (k, &diamond) in diamonds.iter().enumerate() {
+        note(numbers, diamond, k as u16);
+    }
 }
 
 impl UniqueTable {
     // Adds a diamond under the next number, which it answers; none where there are 1,024, and nothing changes.
     pub fn push(&mut self, diamond: Diamond) -> Option<usize>
-        ensures answer { result ≡ (if leb 1024 (length (diamonds_in self.old)) then None else Some (length (diamonds_in self.old))) }
-        ensures diamonds { diamonds_in self.new ≡ (if leb 1024 (length (diamonds_in self.old)) then diamonds_in self.old else diamonds_in self.old ++ (diamond ∷ [])) }
+        ensures answer { result ≡ (if leb 1024 (length self.old) then None else Some (length self.old)) }
+        ensures diamonds { self.new ≡ (if leb 1024 (length self.old) then self.old else self.old ++ (diamond ∷ [])) }
     {
         let k = self.diamonds.len();
-        if is_full(k) {
+        if k >= ROOM {
             return None;
         }
-        chain(&mut self.heads, &mut self.links, diamond, k as u16);
+        note(&mut self.numbers, diamond, k as u16);
         self.diamonds.push_reserved(diamond);
         Some(k)
     }
 
-    // Takes the newest diamond back, if there is one.
-    fn pop(&mut self)
-        ensures { diamonds_in self.new ≡ take (length (diamonds_in self.old) - 1) (diamonds_in self.old) }
-    {
-        if let Some(diamond) = self.diamonds.pop() {
-            unchain(&mut self.heads, &mut self.links, diamond);
-        }
-    }
-
     // Takes back all diamonds but the first `count`.
     pub fn cut(&mut self, count: usize)
-        ensures { diamonds_in self.new ≡ take count (diamonds_in self.old) }
+        ensures { self.new ≡ take count self.old }
     {
-        while is_over(self.diamonds.len(), count) {
-            self.pop();
+        if count < self.diamonds.len() {
+            self.diamonds.truncate(count);
+            renumber(&mut self.numbers, &self.diamonds);
         }
     }
 }

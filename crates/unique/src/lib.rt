@@ -1,8 +1,6 @@
-// The unique table: the diamonds of an engine, with an index to look them up by.
+// The unique table: the diamonds of an engine, with a map to look them up in.
 #![tactic(auto)]
 
-pub mod buckets;
-pub mod chains;
 pub mod finding;
 pub mod growing;
 pub mod tables;

@@ -1,24 +1,19 @@
-use Rattle.std.proofs.Common.{◌-◌, false, sym, refl, ◌∙◌, arith}
-use Rattle.diagram.specs.Words.{letters_of}
-use Rattle.diagram.proofs.Recorded.{edge_made}
-use Rattle.diagram.proofs.Spelt.{nothing_peeled, well_spelled_nil, peeled_chosen, peeled_unchosen}
+use Rattle.std.proofs.Common.{rules, sym, ◌∙◌}
+use Rattle.diagram.proofs.Spelt.{below_parts, below_foot, below_chosen, below_unchosen}
 use Rattle.diagram.proofs.meanings.Meaning.+chooses_all.Goals as goal
 
-pub returns-in-None : goal.returns-in-None
-returns-in-None t c = λ s h.
-    let n = nothing_peeled c.args.edge.length c.args.edge.word (omega arith) c.requires.spelled (sym c.in-None.ensures.value) in
-    sym (well_spelled_nil c.args.self.now s _ c.args.edge.length c.args.edge.word n)
+pub chooses_all-requires : goal.chooses_all-requires
+chooses_all-requires t c =
+    let h = sym (below_parts c.args.edge c.in-Some.letter c.in-Some.below (sym c.in-Some.ensures.value)).3 ∙ c.requires.spelled in
+    search rules
 
 pub returns-then-chooses : goal.returns-then-chooses
 returns-then-chooses t c = λ s h.
-    let below = edge_made false (c.args.edge.length - 1) c.in-Some.word c.args.edge.target in
-    c.chooses_all.ensures s h
-    ∙ sym (peeled_chosen c.args.self.now s below c.in-Some.letter c.args.foot (letters_of c.args.edge.length c.args.edge.word) refl
-    (sym c.in-Some.ensures.rest ∙ c.requires.spelled) h c.in-Some.ensures.letters (sym c.if-chooses.ensures))
+    let b = sym c.in-Some.ensures.value in
+    c.chooses_all.ensures s (below_foot c.args.self.now s c.args.edge c.in-Some.letter c.in-Some.below c.args.foot b c.requires.spelled h)
+    ∙ sym (below_chosen c.args.self.now s c.args.edge c.in-Some.letter c.in-Some.below c.args.foot b c.requires.spelled h (sym c.if-chooses.ensures))
 
 pub returns-else-chooses : goal.returns-else-chooses
 returns-else-chooses t c = λ s h.
-    let below = edge_made false (c.args.edge.length - 1) c.in-Some.word c.args.edge.target in
     c.if-chooses.false
-    ∙ sym (peeled_unchosen c.args.self.now s below c.in-Some.letter c.args.foot (letters_of c.args.edge.length c.args.edge.word) refl
-    (sym c.in-Some.ensures.rest ∙ c.requires.spelled) h c.in-Some.ensures.letters (sym c.if-chooses.ensures))
+    ∙ sym (below_unchosen c.args.self.now s c.args.edge c.in-Some.letter c.in-Some.below c.args.foot (sym c.in-Some.ensures.value) c.requires.spelled h (sym c.if-chooses.ensures))

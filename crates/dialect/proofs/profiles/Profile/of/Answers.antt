@@ -6,6 +6,6 @@ use Rattle.dialect.proofs.profiles.Profile.of.Goals as goal
 
 pub invariant_of-result : goal.invariant_of-result
 invariant_of-result g c =
-    let asked : Meaning = record { code = c.coded.result; negates = c.negating.result; letters = c.letters_of.result; answers = c.answers_of.result } in
+    let asked : Meaning = record { code = c.CODE.result; negates = c.NEGATES.result; letters = c.letters_of.result; answers = c.answers_of.result } in
     let e : asked ≡ g.D.Dialect.meaning = search rules in
     record { sound = subst (λ (m : Meaning). lawful m ≡ true) (sym e) g.met.D.Dialect.sound }

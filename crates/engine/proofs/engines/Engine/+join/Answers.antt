@@ -1,13 +1,10 @@
-use Rattle.std.proofs.Common.{◌≡◌, ◌-◌, true, length, Ok, Err, Result, sym, refl, ap, ◌∙◌, subst, ap₂, arith}
-use Rattle.cache.specs.declared.tables.Table.{Table}
-use Rattle.cache.specs.Tables.{table_places}
+use Rattle.std.proofs.Common.{◌≡◌, ◌-◌, true, List, length, Ok, Err, Result, sym, refl, ap, ◌∙◌, subst, ap₂, arith}
 use Rattle.std.proofs.lemmas.Result.{err_from_is_err_and}
 use Rattle.diagram.specs.declared.edges.Edge.{Edge}
 use Rattle.diagram.specs.declared.refusals.Refusal.{Refusal}
 use Rattle.dialect.specs.declared.profiles.Profile.{Profile}
 use Rattle.basics.specs.Plain.{turned}
-use Rattle.unique.specs.declared.tables.UniqueTable.{UniqueTable}
-use Rattle.unique.specs.Shelf.{diamonds_in}
+use Rattle.diagram.specs.declared.edges.Diamond.{Diamond}
 use Rattle.diagram.specs.Making.{make}
 use Rattle.diagram.specs.Records.{edge_of, store_of}
 use Rattle.engine.specs.Steps.{Outcome, kept, right_for}
@@ -53,7 +50,7 @@ pub join-requires : goal.join-requires
 join-requires g t c κs within =
     let s = c.args.self.now.state in
     let i = unsettled_some s c.args.key c.args.n c.requires c.meaning.result c.meaning.ensures.value c.in_default.ensures in
-    (omega (arith, c.decreases), (within, c.plain-low_mark.ensures.key))
+    (omega (arith, c.decreases), (within, c.plain-low_plain.ensures.key))
 
 pub returns-in_err-low : goal.returns-in_err-low
 returns-in_err-low g t c =
@@ -62,10 +59,10 @@ returns-in_err-low g t c =
     let p = err_from_is_err_and c.from_residual.result c.from_residual.ensures.1 in
     let x = c.in_err-low.field-0.0 in
     let q : c.from_residual.result ≡ Err x = p.1 ∙ ap Err p.2 in
-    let xs = diamonds_in c.join.new.self.state.diamonds in
+    let xs = c.join.new.self.state.diamonds in
     record {
-      joined = subst (λ (r : Result Edge Refusal). Joined s.profile.meaning (diamonds_in s.diamonds) (joint_of (diamonds_in s.diamonds) c.args.key) r xs) (sym q)
-          (break_low s.profile.meaning (diamonds_in s.diamonds) (state_well s) c.args.key c.args.n c.requires i c.half_key-low_key.result c.half_key-high_key.result c.half_key-low_key.ensures.key c.half_key-high_key.ensures.key c.half_key-low_key.ensures.half c.half_key-high_key.ensures.half x xs (low_joined s.profile.meaning (diamonds_in s.diamonds) (state_well s) c.args.key c.args.n c.requires i c.half_key-low_key.result c.half_key-high_key.result c.half_key-low_key.ensures.key c.half_key-high_key.ensures.key c.half_key-low_key.ensures.half c.half_key-high_key.ensures.half c.plain-low_mark.result.0 c.plain-low_mark.result.1 c.plain-low_mark.ensures.mark c.plain-low_mark.ensures.rule c.plain-high_mark.result.0 c.plain-high_mark.result.1 c.plain-high_mark.ensures.key c.plain-high_mark.ensures.mark c.plain-high_mark.ensures.rule (Err x) xs c.in_err-low.ensures.joined));
+      joined = subst (λ (r : Result Edge Refusal). Joined s.profile.meaning s.diamonds (joint_of s.diamonds c.args.key) r xs) (sym q)
+          (break_low s.profile.meaning s.diamonds (state_well s) c.args.key c.args.n c.requires i c.half_key-low_key.result c.half_key-high_key.result c.half_key-low_key.ensures.key c.half_key-high_key.ensures.key c.half_key-low_key.ensures.half c.half_key-high_key.ensures.half x xs (low_joined s.profile.meaning s.diamonds (state_well s) c.args.key c.args.n c.requires i c.half_key-low_key.result c.half_key-high_key.result c.half_key-low_key.ensures.key c.half_key-high_key.ensures.key c.half_key-low_key.ensures.half c.half_key-high_key.ensures.half c.plain-low_plain.result.key c.plain-low_plain.result.negated c.plain-low_plain.ensures.mark c.plain-low_plain.ensures.rule c.plain-high_plain.result.key c.plain-high_plain.result.negated c.plain-high_plain.ensures.key c.plain-high_plain.ensures.mark c.plain-high_plain.ensures.rule (Err x) xs c.in_err-low.ensures.joined));
       right = refused_made (λ e. right_for c.join.new.self.state.profile.meaning xs c.args.key e ≡ true) c.from_residual.result x q;
       profile = c.in_err-low.ensures.profile;
       long = c.in_err-low.ensures.long;
@@ -87,8 +84,8 @@ pub join-requires-2 : goal.join-requires-2
 join-requires-2 g t c κs within =
     let s = c.args.self.now.state in
     let i = unsettled_some s c.args.key c.args.n c.requires c.meaning.result c.meaning.ensures.value c.in_default.ensures in
-    let es = diamonds_in c.join.new.self.state.diamonds in
-    (omega (arith, c.decreases), (within, subst (λ (p : Profile). KeyOfArity p.meaning es c.plain-high_mark.result.0 (c.args.n - 1)) (sym c.in_ok-low.ensures.profile) (high_plain s.profile.meaning (diamonds_in s.diamonds) (state_well s) c.args.key c.args.n c.requires i c.half_key-low_key.result c.half_key-high_key.result c.half_key-low_key.ensures.key c.half_key-high_key.ensures.key c.half_key-low_key.ensures.half c.half_key-high_key.ensures.half c.plain-low_mark.result.0 c.plain-low_mark.result.1 c.plain-low_mark.ensures.mark c.plain-low_mark.ensures.rule c.plain-high_mark.result.0 c.plain-high_mark.result.1 c.plain-high_mark.ensures.key c.plain-high_mark.ensures.mark c.plain-high_mark.ensures.rule c.in_ok-low.low es c.in_ok-low.ensures.joined)))
+    let es = c.join.new.self.state.diamonds in
+    (omega (arith, c.decreases), (within, subst (λ (p : Profile). KeyOfArity p.meaning es c.plain-high_plain.result.key (c.args.n - 1)) (sym c.in_ok-low.ensures.profile) (high_plain s.profile.meaning s.diamonds (state_well s) c.args.key c.args.n c.requires i c.half_key-low_key.result c.half_key-high_key.result c.half_key-low_key.ensures.key c.half_key-high_key.ensures.key c.half_key-low_key.ensures.half c.half_key-high_key.ensures.half c.plain-low_plain.result.key c.plain-low_plain.result.negated c.plain-low_plain.ensures.mark c.plain-low_plain.ensures.rule c.plain-high_plain.result.key c.plain-high_plain.result.negated c.plain-high_plain.ensures.key c.plain-high_plain.ensures.mark c.plain-high_plain.ensures.rule c.in_ok-low.low es c.in_ok-low.ensures.joined)))
 
 pub returns-in_err-high : goal.returns-in_err-high
 returns-in_err-high g t c =
@@ -97,11 +94,11 @@ returns-in_err-high g t c =
     let p = err_from_is_err_and c.from_residual-in_err-high.result c.from_residual-in_err-high.ensures.1 in
     let x = c.in_err-high.field-0.0 in
     let q : c.from_residual-in_err-high.result ≡ Err x = p.1 ∙ ap Err p.2 in
-    let es = diamonds_in c.join.new.self.state.diamonds in
-    let xs = diamonds_in c.join-2.new.self.state.diamonds in
-    let m = subst (λ (p : Profile). Joined p.meaning es (joint_of es c.plain-high_mark.result.0) (Err x) xs) c.in_ok-low.ensures.profile c.in_err-high.ensures.joined in
+    let es = c.join.new.self.state.diamonds in
+    let xs = c.join-2.new.self.state.diamonds in
+    let m = subst (λ (p : Profile). Joined p.meaning es (joint_of es c.plain-high_plain.result.key) (Err x) xs) c.in_ok-low.ensures.profile c.in_err-high.ensures.joined in
     record {
-      joined = subst (λ (r : Result Edge Refusal). Joined s.profile.meaning (diamonds_in s.diamonds) (joint_of (diamonds_in s.diamonds) c.args.key) r xs) (sym q) (plain_break_high s.profile.meaning (diamonds_in s.diamonds) (state_well s) c.args.key c.args.n c.requires i c.half_key-low_key.result c.half_key-high_key.result c.half_key-low_key.ensures.key c.half_key-high_key.ensures.key c.half_key-low_key.ensures.half c.half_key-high_key.ensures.half c.plain-low_mark.result.0 c.plain-low_mark.result.1 c.plain-low_mark.ensures.mark c.plain-low_mark.ensures.rule c.plain-high_mark.result.0 c.plain-high_mark.result.1 c.plain-high_mark.ensures.key c.plain-high_mark.ensures.mark c.plain-high_mark.ensures.rule c.in_ok-low.low es c.in_ok-low.ensures.joined x xs m);
+      joined = subst (λ (r : Result Edge Refusal). Joined s.profile.meaning s.diamonds (joint_of s.diamonds c.args.key) r xs) (sym q) (plain_break_high s.profile.meaning s.diamonds (state_well s) c.args.key c.args.n c.requires i c.half_key-low_key.result c.half_key-high_key.result c.half_key-low_key.ensures.key c.half_key-high_key.ensures.key c.half_key-low_key.ensures.half c.half_key-high_key.ensures.half c.plain-low_plain.result.key c.plain-low_plain.result.negated c.plain-low_plain.ensures.mark c.plain-low_plain.ensures.rule c.plain-high_plain.result.key c.plain-high_plain.result.negated c.plain-high_plain.ensures.key c.plain-high_plain.ensures.mark c.plain-high_plain.ensures.rule c.in_ok-low.low es c.in_ok-low.ensures.joined x xs m);
       right = refused_made (λ e. right_for c.join-2.new.self.state.profile.meaning xs c.args.key e ≡ true) c.from_residual-in_err-high.result x q;
       profile = c.in_err-high.ensures.profile ∙ c.in_ok-low.ensures.profile;
       long = c.in_err-high.ensures.long ∙ c.in_ok-low.ensures.long;
@@ -111,48 +108,48 @@ pub make-requires : goal.make-requires
 make-requires g t c =
     let s = c.args.self.now.state in
     let i = unsettled_some s c.args.key c.args.n c.requires c.meaning.result c.meaning.ensures.value c.in_default.ensures in
-    let es = diamonds_in c.join.new.self.state.diamonds in
-    let xs = diamonds_in c.join-2.new.self.state.diamonds in
-    let m = subst (λ (p : Profile). Joined p.meaning es (joint_of es c.plain-high_mark.result.0) (Ok c.in_ok-high.high) xs) c.in_ok-low.ensures.profile c.in_ok-high.ensures.joined in
-    let f = subst (λ (p : Profile). HalvesFit p.meaning xs (turned c.plain-low_mark.result.1 c.in_ok-low.low) (turned c.plain-high_mark.result.1 c.in_ok-high.high)) (sym (c.in_ok-high.ensures.profile ∙ c.in_ok-low.ensures.profile))
-    (plain_fits s.profile.meaning (diamonds_in s.diamonds) (state_well s) c.args.key c.args.n c.requires i c.half_key-low_key.result c.half_key-high_key.result c.half_key-low_key.ensures.key c.half_key-high_key.ensures.key c.half_key-low_key.ensures.half c.half_key-high_key.ensures.half c.plain-low_mark.result.0 c.plain-low_mark.result.1 c.plain-low_mark.ensures.mark c.plain-low_mark.ensures.rule c.plain-high_mark.result.0 c.plain-high_mark.result.1 c.plain-high_mark.ensures.key c.plain-high_mark.ensures.mark c.plain-high_mark.ensures.rule c.in_ok-low.low es c.in_ok-low.ensures.joined c.in_ok-high.high xs m) in
-    subst (λ (u : Edge × Edge). HalvesFit c.join-2.new.self.state.profile.meaning xs u.0 u.1) (ap₂ (λ (a b : Edge). (a, b)) (sym c.turned.ensures) (sym c.turned-2.ensures)) f
+    let es = c.join.new.self.state.diamonds in
+    let xs = c.join-2.new.self.state.diamonds in
+    let m = subst (λ (p : Profile). Joined p.meaning es (joint_of es c.plain-high_plain.result.key) (Ok c.in_ok-high.high) xs) c.in_ok-low.ensures.profile c.in_ok-high.ensures.joined in
+    let f = subst (λ (p : Profile). HalvesFit p.meaning xs (turned c.plain-low_plain.result.negated c.in_ok-low.low) (turned c.plain-high_plain.result.negated c.in_ok-high.high)) (sym (c.in_ok-high.ensures.profile ∙ c.in_ok-low.ensures.profile))
+    (plain_fits s.profile.meaning s.diamonds (state_well s) c.args.key c.args.n c.requires i c.half_key-low_key.result c.half_key-high_key.result c.half_key-low_key.ensures.key c.half_key-high_key.ensures.key c.half_key-low_key.ensures.half c.half_key-high_key.ensures.half c.plain-low_plain.result.key c.plain-low_plain.result.negated c.plain-low_plain.ensures.mark c.plain-low_plain.ensures.rule c.plain-high_plain.result.key c.plain-high_plain.result.negated c.plain-high_plain.ensures.key c.plain-high_plain.ensures.mark c.plain-high_plain.ensures.rule c.in_ok-low.low es c.in_ok-low.ensures.joined c.in_ok-high.high xs m) in
+    subst (λ (u : Edge × Edge). HalvesFit c.join-2.new.self.state.profile.meaning xs u.0 u.1) (ap₂ (λ (a b : Edge). (a, b)) (sym c.restore.ensures) (sym c.restore-2.ensures)) f
 
 pub returns-in_err-edge : goal.returns-in_err-edge
 returns-in_err-edge g t c =
     let s = c.args.self.now.state in
     let i = unsettled_some s c.args.key c.args.n c.requires c.meaning.result c.meaning.ensures.value c.in_default.ensures in
-    let es = diamonds_in c.join.new.self.state.diamonds in
-    let xs = diamonds_in c.join-2.new.self.state.diamonds in
-    let ys = diamonds_in c.make.new.self.diamonds in
+    let es = c.join.new.self.state.diamonds in
+    let xs = c.join-2.new.self.state.diamonds in
+    let ys = c.make.new.self.diamonds in
     let same = c.in_ok-high.ensures.profile ∙ c.in_ok-low.ensures.profile in
-    let m = subst (λ (p : Profile). Joined p.meaning es (joint_of es c.plain-high_mark.result.0) (Ok c.in_ok-high.high) xs) c.in_ok-low.ensures.profile c.in_ok-high.ensures.joined in
-    let o₁ = subst (λ (p : Profile). ◌≡◌ {A = Outcome} (Err c.in_err-edge.field-0.0, ys) (kept xs (make p.meaning (store_of xs) (edge_of c.turned.result) (edge_of c.turned-2.result)))) same c.in_err-edge.ensures.outcome in
-    let o = o₁ ∙ ap₂ (λ (a b : Edge). kept xs (make s.profile.meaning (store_of xs) (edge_of a) (edge_of b))) c.turned.ensures c.turned-2.ensures in
-    let j = plain_both s.profile.meaning (diamonds_in s.diamonds) (state_well s) c.args.key c.args.n c.requires i c.half_key-low_key.result c.half_key-high_key.result c.half_key-low_key.ensures.key c.half_key-high_key.ensures.key c.half_key-low_key.ensures.half c.half_key-high_key.ensures.half c.plain-low_mark.result.0 c.plain-low_mark.result.1 c.plain-low_mark.ensures.mark c.plain-low_mark.ensures.rule c.plain-high_mark.result.0 c.plain-high_mark.result.1 c.plain-high_mark.ensures.key c.plain-high_mark.ensures.mark c.plain-high_mark.ensures.rule c.in_ok-low.low es c.in_ok-low.ensures.joined c.in_ok-high.high xs m (Err c.in_err-edge.field-0.0) ys o in
+    let m = subst (λ (p : Profile). Joined p.meaning es (joint_of es c.plain-high_plain.result.key) (Ok c.in_ok-high.high) xs) c.in_ok-low.ensures.profile c.in_ok-high.ensures.joined in
+    let o₁ = subst (λ (p : Profile). ◌≡◌ {A = Outcome} (Err c.in_err-edge.field-0.0, ys) (kept xs (make p.meaning (store_of xs) (edge_of c.restore.result) (edge_of c.restore-2.result)))) same c.in_err-edge.ensures.outcome in
+    let o = o₁ ∙ ap₂ (λ (a b : Edge). kept xs (make s.profile.meaning (store_of xs) (edge_of a) (edge_of b))) c.restore.ensures c.restore-2.ensures in
+    let j = plain_both s.profile.meaning s.diamonds (state_well s) c.args.key c.args.n c.requires i c.half_key-low_key.result c.half_key-high_key.result c.half_key-low_key.ensures.key c.half_key-high_key.ensures.key c.half_key-low_key.ensures.half c.half_key-high_key.ensures.half c.plain-low_plain.result.key c.plain-low_plain.result.negated c.plain-low_plain.ensures.mark c.plain-low_plain.ensures.rule c.plain-high_plain.result.key c.plain-high_plain.result.negated c.plain-high_plain.ensures.key c.plain-high_plain.ensures.mark c.plain-high_plain.ensures.rule c.in_ok-low.low es c.in_ok-low.ensures.joined c.in_ok-high.high xs m (Err c.in_err-edge.field-0.0) ys o in
     let p = err_from_is_err_and c.from_residual-in_err-edge.result c.from_residual-in_err-edge.ensures.1 in
     let q : c.from_residual-in_err-edge.result ≡ Err c.in_err-edge.field-0.0 = p.1 ∙ ap Err p.2 in
     record {
-      joined = subst (λ (r : Result Edge Refusal). Joined s.profile.meaning (diamonds_in s.diamonds) (joint_of (diamonds_in s.diamonds) c.args.key) r ys) (sym q) j;
+      joined = subst (λ (r : Result Edge Refusal). Joined s.profile.meaning s.diamonds (joint_of s.diamonds c.args.key) r ys) (sym q) j;
       right = refused_made (λ e. right_for c.make.new.self.profile.meaning ys c.args.key e ≡ true) c.from_residual-in_err-edge.result c.in_err-edge.field-0.0 q;
       profile = c.in_err-edge.ensures.profile ∙ same;
-      long = ap (λ (t : Table). length (table_places t)) c.in_err-edge.ensures.table ∙ c.in_ok-high.ensures.long ∙ c.in_ok-low.ensures.long;
+      long = ap length c.in_err-edge.ensures.table ∙ c.in_ok-high.ensures.long ∙ c.in_ok-low.ensures.long;
     }
 
 pub note-requires : goal.note-requires
 note-requires g t c =
     let s = c.args.self.now.state in
     let i = unsettled_some s c.args.key c.args.n c.requires c.meaning.result c.meaning.ensures.value c.in_default.ensures in
-    let es = diamonds_in c.join.new.self.state.diamonds in
-    let xs = diamonds_in c.join-2.new.self.state.diamonds in
-    let ys = diamonds_in c.make.new.self.diamonds in
+    let es = c.join.new.self.state.diamonds in
+    let xs = c.join-2.new.self.state.diamonds in
+    let ys = c.make.new.self.diamonds in
     let same = c.in_ok-high.ensures.profile ∙ c.in_ok-low.ensures.profile in
-    let m = subst (λ (p : Profile). Joined p.meaning es (joint_of es c.plain-high_mark.result.0) (Ok c.in_ok-high.high) xs) c.in_ok-low.ensures.profile c.in_ok-high.ensures.joined in
-    let o₁ = subst (λ (p : Profile). ◌≡◌ {A = Outcome} (Ok c.in_ok-edge.edge, ys) (kept xs (make p.meaning (store_of xs) (edge_of c.turned.result) (edge_of c.turned-2.result)))) same c.in_ok-edge.ensures.outcome in
-    let o = o₁ ∙ ap₂ (λ (a b : Edge). kept xs (make s.profile.meaning (store_of xs) (edge_of a) (edge_of b))) c.turned.ensures c.turned-2.ensures in
-    let j = plain_both s.profile.meaning (diamonds_in s.diamonds) (state_well s) c.args.key c.args.n c.requires i c.half_key-low_key.result c.half_key-high_key.result c.half_key-low_key.ensures.key c.half_key-high_key.ensures.key c.half_key-low_key.ensures.half c.half_key-high_key.ensures.half c.plain-low_mark.result.0 c.plain-low_mark.result.1 c.plain-low_mark.ensures.mark c.plain-low_mark.ensures.rule c.plain-high_mark.result.0 c.plain-high_mark.result.1 c.plain-high_mark.ensures.key c.plain-high_mark.ensures.mark c.plain-high_mark.ensures.rule c.in_ok-low.low es c.in_ok-low.ensures.joined c.in_ok-high.high xs m (Ok c.in_ok-edge.edge) ys o in
+    let m = subst (λ (p : Profile). Joined p.meaning es (joint_of es c.plain-high_plain.result.key) (Ok c.in_ok-high.high) xs) c.in_ok-low.ensures.profile c.in_ok-high.ensures.joined in
+    let o₁ = subst (λ (p : Profile). ◌≡◌ {A = Outcome} (Ok c.in_ok-edge.edge, ys) (kept xs (make p.meaning (store_of xs) (edge_of c.restore.result) (edge_of c.restore-2.result)))) same c.in_ok-edge.ensures.outcome in
+    let o = o₁ ∙ ap₂ (λ (a b : Edge). kept xs (make s.profile.meaning (store_of xs) (edge_of a) (edge_of b))) c.restore.ensures c.restore-2.ensures in
+    let j = plain_both s.profile.meaning s.diamonds (state_well s) c.args.key c.args.n c.requires i c.half_key-low_key.result c.half_key-high_key.result c.half_key-low_key.ensures.key c.half_key-high_key.ensures.key c.half_key-low_key.ensures.half c.half_key-high_key.ensures.half c.plain-low_plain.result.key c.plain-low_plain.result.negated c.plain-low_plain.ensures.mark c.plain-low_plain.ensures.rule c.plain-high_plain.result.key c.plain-high_plain.result.negated c.plain-high_plain.ensures.key c.plain-high_plain.ensures.mark c.plain-high_plain.ensures.rule c.in_ok-low.low es c.in_ok-low.ensures.joined c.in_ok-high.high xs m (Ok c.in_ok-edge.edge) ys o in
     let w = state_well c.make.new.self in
-    let k = joined_stands s.profile.meaning (diamonds_in s.diamonds) (state_well s) c.args.key c.args.n c.requires c.in_ok-edge.edge ys j in
+    let k = joined_stands s.profile.meaning s.diamonds (state_well s) c.args.key c.args.n c.requires c.in_ok-edge.edge ys j in
     let all = c.in_ok-edge.ensures.profile ∙ same in
     subst (λ (p : Profile). right_for p.meaning ys c.args.key c.in_ok-edge.edge ≡ true) (sym all)
     (right_met s.profile.meaning ys (subst (λ (p : Profile). HeldWell p.meaning ys) all w) c.args.key c.in_ok-edge.edge k)
@@ -161,22 +158,22 @@ pub returns : goal.returns
 returns g t c =
     let s = c.args.self.now.state in
     let i = unsettled_some s c.args.key c.args.n c.requires c.meaning.result c.meaning.ensures.value c.in_default.ensures in
-    let es = diamonds_in c.join.new.self.state.diamonds in
-    let xs = diamonds_in c.join-2.new.self.state.diamonds in
-    let ys = diamonds_in c.make.new.self.diamonds in
+    let es = c.join.new.self.state.diamonds in
+    let xs = c.join-2.new.self.state.diamonds in
+    let ys = c.make.new.self.diamonds in
     let same = c.in_ok-high.ensures.profile ∙ c.in_ok-low.ensures.profile in
-    let m = subst (λ (p : Profile). Joined p.meaning es (joint_of es c.plain-high_mark.result.0) (Ok c.in_ok-high.high) xs) c.in_ok-low.ensures.profile c.in_ok-high.ensures.joined in
-    let o₁ = subst (λ (p : Profile). ◌≡◌ {A = Outcome} (Ok c.in_ok-edge.edge, ys) (kept xs (make p.meaning (store_of xs) (edge_of c.turned.result) (edge_of c.turned-2.result)))) same c.in_ok-edge.ensures.outcome in
-    let o = o₁ ∙ ap₂ (λ (a b : Edge). kept xs (make s.profile.meaning (store_of xs) (edge_of a) (edge_of b))) c.turned.ensures c.turned-2.ensures in
-    let j = plain_both s.profile.meaning (diamonds_in s.diamonds) (state_well s) c.args.key c.args.n c.requires i c.half_key-low_key.result c.half_key-high_key.result c.half_key-low_key.ensures.key c.half_key-high_key.ensures.key c.half_key-low_key.ensures.half c.half_key-high_key.ensures.half c.plain-low_mark.result.0 c.plain-low_mark.result.1 c.plain-low_mark.ensures.mark c.plain-low_mark.ensures.rule c.plain-high_mark.result.0 c.plain-high_mark.result.1 c.plain-high_mark.ensures.key c.plain-high_mark.ensures.mark c.plain-high_mark.ensures.rule c.in_ok-low.low es c.in_ok-low.ensures.joined c.in_ok-high.high xs m (Ok c.in_ok-edge.edge) ys o in
+    let m = subst (λ (p : Profile). Joined p.meaning es (joint_of es c.plain-high_plain.result.key) (Ok c.in_ok-high.high) xs) c.in_ok-low.ensures.profile c.in_ok-high.ensures.joined in
+    let o₁ = subst (λ (p : Profile). ◌≡◌ {A = Outcome} (Ok c.in_ok-edge.edge, ys) (kept xs (make p.meaning (store_of xs) (edge_of c.restore.result) (edge_of c.restore-2.result)))) same c.in_ok-edge.ensures.outcome in
+    let o = o₁ ∙ ap₂ (λ (a b : Edge). kept xs (make s.profile.meaning (store_of xs) (edge_of a) (edge_of b))) c.restore.ensures c.restore-2.ensures in
+    let j = plain_both s.profile.meaning s.diamonds (state_well s) c.args.key c.args.n c.requires i c.half_key-low_key.result c.half_key-high_key.result c.half_key-low_key.ensures.key c.half_key-high_key.ensures.key c.half_key-low_key.ensures.half c.half_key-high_key.ensures.half c.plain-low_plain.result.key c.plain-low_plain.result.negated c.plain-low_plain.ensures.mark c.plain-low_plain.ensures.rule c.plain-high_plain.result.key c.plain-high_plain.result.negated c.plain-high_plain.ensures.key c.plain-high_plain.ensures.mark c.plain-high_plain.ensures.rule c.in_ok-low.low es c.in_ok-low.ensures.joined c.in_ok-high.high xs m (Ok c.in_ok-edge.edge) ys o in
     let w = state_well c.make.new.self in
-    let k = joined_stands s.profile.meaning (diamonds_in s.diamonds) (state_well s) c.args.key c.args.n c.requires c.in_ok-edge.edge ys j in
+    let k = joined_stands s.profile.meaning s.diamonds (state_well s) c.args.key c.args.n c.requires c.in_ok-edge.edge ys j in
     let all = c.in_ok-edge.ensures.profile ∙ same in
     let right : right_for s.profile.meaning ys c.args.key c.in_ok-edge.edge ≡ true = right_met s.profile.meaning ys (subst (λ (p : Profile). HeldWell p.meaning ys) all w) c.args.key c.in_ok-edge.edge k in
     record {
-      right = subst (λ (p : Profile). right_for p.meaning (diamonds_in c.note.new.self.state.diamonds) c.args.key c.in_ok-edge.edge ≡ true) (sym (c.note.ensures.state.1 ∙ all))
-          (subst (λ (u : UniqueTable). right_for s.profile.meaning (diamonds_in u) c.args.key c.in_ok-edge.edge ≡ true) (sym c.note.ensures.state.0) right);
-      joined = subst (λ (u : UniqueTable). Joined s.profile.meaning (diamonds_in s.diamonds) (joint_of (diamonds_in s.diamonds) c.args.key) (Ok c.in_ok-edge.edge) (diamonds_in u)) (sym c.note.ensures.state.0) j;
+      right = subst (λ (p : Profile). right_for p.meaning c.note.new.self.state.diamonds c.args.key c.in_ok-edge.edge ≡ true) (sym (c.note.ensures.state.1 ∙ all))
+          (subst (λ (ds : List Diamond). right_for s.profile.meaning ds c.args.key c.in_ok-edge.edge ≡ true) (sym c.note.ensures.state.0) right);
+      joined = subst (λ (ds : List Diamond). Joined s.profile.meaning s.diamonds (joint_of s.diamonds c.args.key) (Ok c.in_ok-edge.edge) ds) (sym c.note.ensures.state.0) j;
       profile = c.note.ensures.state.1 ∙ all;
-      long = c.note.ensures.noted.long ∙ ap (λ (t : Table). length (table_places t)) c.in_ok-edge.ensures.table ∙ c.in_ok-high.ensures.long ∙ c.in_ok-low.ensures.long;
+      long = c.note.ensures.noted.long ∙ ap length c.in_ok-edge.ensures.table ∙ c.in_ok-high.ensures.long ∙ c.in_ok-low.ensures.long;
     }

@@ -8,7 +8,6 @@ use Rattle.diagram.specs.Refusals.{refusal_number}
 use Rattle.diagram.specs.RecordTheorems.{Answered}
 use Rattle.dialect.specs.declared.profiles.Profile.{Profile}
 use Rattle.cache.specs.declared.entries.Key.{Key}
-use Rattle.unique.specs.Shelf.{diamonds_in}
 use Rattle.engine.specs.declared.combined.Combined.{Combined}
 use Rattle.engine.specs.Steps.{Outcome, joint, combine_step, answered, given}
 use Rattle.engine.specs.States.{KeyOfArity}
@@ -24,7 +23,7 @@ pub returns-in_err-connective : goal.returns-in_err-connective
 returns-in_err-connective g c =
     let s = c.args.self.now in
     let D = s.state.profile.meaning in
-    let ds = diamonds_in s.state.diamonds in
+    let ds = s.state.diamonds in
     let K = key c.args.connective c.args.a c.args.b in
     let x = c.in_err-connective.field-0.0 in
     let p = err_from_is_err_and c.from_residual.result c.from_residual.ensures.1 in
@@ -39,14 +38,14 @@ returns-in_err-connective g c =
       long = refl;
       found = λ _. (refl, refl);
       still = λ y r h. (refl, refl);
-      map = map_left g.C.Cache.keeps D ds K gave x (combine_step D ds c.args.connective c.args.a c.args.b).0 (ap (λ (z : Outcome). z.0) o.0) o.1 (remembers_state s.state gave (g.met.C.Cache.honest s.cache s.state.table));
+      map = map_left g.C.Cache.KEEPS D ds K gave x (combine_step D ds c.args.connective c.args.a c.args.b).0 (ap (λ (z : Outcome). z.0) o.0) o.1 (remembers_state s.state gave (g.met.C.Cache.honest s.cache s.state.table));
     }
 
 pub returns-in_err-n : goal.returns-in_err-n
 returns-in_err-n g c =
     let s = c.args.self.now in
     let D = s.state.profile.meaning in
-    let ds = diamonds_in s.state.diamonds in
+    let ds = s.state.diamonds in
     let K = key c.args.connective c.args.a c.args.b in
     let x = c.in_err-n.field-0.0 in
     let p = err_from_is_err_and c.from_residual-in_err-n.result c.from_residual-in_err-n.ensures.1 in
@@ -62,14 +61,14 @@ returns-in_err-n g c =
       long = refl;
       found = λ _. (refl, refl);
       still = λ y r h. (refl, refl);
-      map = map_left g.C.Cache.keeps D ds K gave x (combine_step D ds c.args.connective c.args.a c.args.b).0 (ap (λ (z : Outcome). z.0) o.0) o.1 (remembers_state s.state gave (g.met.C.Cache.honest s.cache s.state.table));
+      map = map_left g.C.Cache.KEEPS D ds K gave x (combine_step D ds c.args.connective c.args.a c.args.b).0 (ap (λ (z : Outcome). z.0) o.0) o.1 (remembers_state s.state gave (g.met.C.Cache.honest s.cache s.state.table));
     }
 
 pub returns-in-Some : goal.returns-in-Some
 returns-in-Some g c =
     let s = c.args.self.now in
     let D = s.state.profile.meaning in
-    let ds = diamonds_in s.state.diamonds in
+    let ds = s.state.diamonds in
     let K = key c.args.connective c.args.a c.args.b in
     let e = c.in-Some.edge in
     let t = passed (leb c.args.connective 15) c.in_ok-connective.connective c.args.connective NoConnective c.in_ok-connective.ensures in
@@ -80,21 +79,21 @@ returns-in-Some g c =
     let o : ◌≡◌ {A = Outcome} (combine_step D ds c.args.connective c.args.a c.args.b) (Ok e, ds) =
     right_read D ds (state_well s.state) K e (s.state.right K e (g.met.C.Cache.honest s.cache s.state.table K e h)) in
     record {
-      answer = ap Ok c.found.ensures ∙ sym (ap₂ (λ (f : Option Edge) (z : Outcome). answered (given f) z.0) h o);
+      answer = sym (ap₂ (λ (f : Option Edge) (z : Outcome). answered (given f) z.0) h o);
       diamonds = ap (λ (z : Outcome). z.1) (sym o);
-      right = subst (λ (y : Combined). Answered D ds (joint ds c.args.connective c.args.a c.args.b) ds y.edge) (sym c.found.ensures) (step_right D ds (state_well s.state) c.args.connective c.args.a c.args.b e ds o);
+      right = step_right D ds (state_well s.state) c.args.connective c.args.a c.args.b e ds o;
       profile = refl;
       long = refl;
       found = λ _. (refl, refl);
       still = λ y r. let z : ◌≡◌ {A = ℕ} 0 1 = cc in absurd (omega arith);
-      map = map_found g.C.Cache.keeps D ds K gave gives e (combine_step D ds c.args.connective c.args.a c.args.b).0 (ap (λ (z : Outcome). z.0) o) h c.in-Some.ensures.same (remembers_state s.state gives (g.met.C.Cache.honest c.find.new.self s.state.table));
+      map = map_found g.C.Cache.KEEPS D ds K gave gives e (combine_step D ds c.args.connective c.args.a c.args.b).0 (ap (λ (z : Outcome). z.0) o) h c.in-Some.ensures.same (remembers_state s.state gives (g.met.C.Cache.honest c.find.new.self s.state.table));
     }
 
 pub join-requires : goal.join-requires
 join-requires g c =
     let s = c.args.self.now in
     let D = s.state.profile.meaning in
-    let ds = diamonds_in s.state.diamonds in
+    let ds = s.state.diamonds in
     let K = key c.args.connective c.args.a c.args.b in
     let t = passed (leb c.args.connective 15) c.in_ok-connective.connective c.args.connective NoConnective c.in_ok-connective.ensures in
     let kk : c.key_of-key.result ≡ K = c.key_of-key.ensures ∙ ap (λ (n : ℕ). key n c.args.a c.args.b) t.1 in
@@ -103,24 +102,24 @@ join-requires g c =
 pub take_back-requires : goal.take_back-requires
 take_back-requires g c =
     let s = c.args.self.now.state in
-    let xs = diamonds_in c.join.new.self.state.diamonds in
-    let b : take c.len-count.result xs ≡ diamonds_in s.diamonds = ap (λ (n : ℕ). take n xs) c.len-count.ensures ∙ c.in-Err.ensures.joined.begins in
+    let xs = c.join.new.self.state.diamonds in
+    let b : take c.len-count.result xs ≡ s.diamonds = ap (λ (n : ℕ). take n xs) c.len-count.ensures ∙ c.in-Err.ensures.joined.begins in
     subst (λ (p : Profile). HeldWell p.meaning (take c.len-count.result xs)) (sym c.in-Err.ensures.profile) (subst (HeldWell s.profile.meaning) (sym b) (state_well s))
 
 pub returns-in-Ok : goal.returns-in-Ok
 returns-in-Ok g c =
     let s = c.args.self.now in
     let D = s.state.profile.meaning in
-    let ds = diamonds_in s.state.diamonds in
+    let ds = s.state.diamonds in
     let K = key c.args.connective c.args.a c.args.b in
     let e = c.in-Ok.edge in
     let t = passed (leb c.args.connective 15) c.in_ok-connective.connective c.args.connective NoConnective c.in_ok-connective.ensures in
     let kk : c.key_of-key.result ≡ K = c.key_of-key.ensures ∙ ap (λ (n : ℕ). key n c.args.a c.args.b) t.1 in
     let a = subst (λ (k : Key). KeyOfArity D ds k c.in_ok-n.n) (sym kk) (pair_passed D ds c.args.connective c.args.a c.args.b c.in_ok-n.n t.0 c.in_ok-n.ensures) in
-    let es = diamonds_in c.join.new.self.state.diamonds in
+    let es = c.join.new.self.state.diamonds in
     let last = c.note.new.self in
-    let fs = diamonds_in last.state.diamonds in
-    let ef : fs ≡ es = ap diamonds_in c.note.ensures.state.0 in
+    let fs = last.state.diamonds in
+    let ef : fs ≡ es = c.note.ensures.state.0 in
     let same : last.state.profile ≡ s.state.profile = c.note.ensures.state.1 ∙ c.in-Ok.ensures.profile in
     let gave = g.C.Cache.held s.cache s.state.table in
     let gives = g.C.Cache.held last.cache last.state.table in
@@ -130,29 +129,29 @@ returns-in-Ok g c =
     ap (λ (k : Key). combine_step D ds k.connective k.left k.right) (sym kk) ∙ o₁ ∙ ap (λ (xs : List Diamond). (Ok e, xs)) (sym ef) in
     let m : Remembers D fs gives = subst (λ (p : Profile). Remembers p.meaning fs gives) same (remembers_state last.state gives (g.met.C.Cache.honest last.cache last.state.table)) in
     record {
-      answer = ap Ok c.worked_out.ensures ∙ sym (ap₂ (λ (f : Option Edge) (z : Outcome). answered (given f) z.0) h o);
+      answer = sym (ap₂ (λ (f : Option Edge) (z : Outcome). answered (given f) z.0) h o);
       diamonds = ap (λ (z : Outcome). z.1) (sym o);
-      right = subst (λ (y : Combined). Answered D ds (joint ds c.args.connective c.args.a c.args.b) fs y.edge) (sym c.worked_out.ensures) (step_right D ds (state_well s.state) c.args.connective c.args.a c.args.b e fs o);
+      right = step_right D ds (state_well s.state) c.args.connective c.args.a c.args.b e fs o;
       profile = same;
       long = c.note.ensures.noted.long ∙ c.in-Ok.ensures.long;
       found = λ f. nothing_given (gave K) h f;
       still = λ y r. let z : ◌≡◌ {A = ℕ} 0 1 = cc in absurd (omega arith);
-      map = map_noted g.C.Cache.keeps D fs K gave gives e (combine_step D ds c.args.connective c.args.a c.args.b).0 (ap (λ (z : Outcome). z.0) o) h (λ k. ap gives (sym kk) ∙ c.note.ensures.noted.kept k c.join.new.self.state.wide) m;
+      map = map_noted g.C.Cache.KEEPS D fs K gave gives e (combine_step D ds c.args.connective c.args.a c.args.b).0 (ap (λ (z : Outcome). z.0) o) h (λ k. ap gives (sym kk) ∙ c.note.ensures.noted.kept k c.join.new.self.state.wide) m;
     }
 
 pub returns-in-Err : goal.returns-in-Err
 returns-in-Err g c =
     let s = c.args.self.now in
     let D = s.state.profile.meaning in
-    let ds = diamonds_in s.state.diamonds in
+    let ds = s.state.diamonds in
     let K = key c.args.connective c.args.a c.args.b in
     let x = c.in-Err.refusal in
     let t = passed (leb c.args.connective 15) c.in_ok-connective.connective c.args.connective NoConnective c.in_ok-connective.ensures in
     let kk : c.key_of-key.result ≡ K = c.key_of-key.ensures ∙ ap (λ (n : ℕ). key n c.args.a c.args.b) t.1 in
     let a = subst (λ (k : Key). KeyOfArity D ds k c.in_ok-n.n) (sym kk) (pair_passed D ds c.args.connective c.args.a c.args.b c.in_ok-n.n t.0 c.in_ok-n.ensures) in
-    let xs = diamonds_in c.join.new.self.state.diamonds in
+    let xs = c.join.new.self.state.diamonds in
     let last = c.take_back.new.self in
-    let fs = diamonds_in last.state.diamonds in
+    let fs = last.state.diamonds in
     let gave = g.C.Cache.held s.cache s.state.table in
     let gives = g.C.Cache.held last.cache last.state.table in
     let h : gave K ≡ None = ap gave (sym kk) ∙ sym c.in_default.ensures.value in
@@ -172,5 +171,5 @@ returns-in-Err g c =
           let w : eqb (refusal_number Full) 7 ≡ false = ap (λ (z : Refusal). eqb (refusal_number z) 7) (sym v) ∙ n in
           let z : ◌≡◌ {A = ℕ} 0 1 = cc in
           absurd (omega arith);
-      map = map_emptied g.C.Cache.keeps D fs K gave gives (combine_step D ds c.args.connective c.args.a c.args.b).0 (ap (λ (z : Outcome). z.0) o) h c.take_back.ensures.map;
+      map = map_emptied g.C.Cache.KEEPS D fs K gave gives (combine_step D ds c.args.connective c.args.a c.args.b).0 (ap (λ (z : Outcome). z.0) o) h c.take_back.ensures.map;
     }

@@ -3,7 +3,6 @@ use Rattle.diagram.specs.declared.edges.Edge.{Edge}
 use Rattle.diagram.specs.declared.edges.Diamond.{Diamond}
 use Rattle.diagram.specs.declared.refusals.Refusal.{Refusal}
 use Rattle.dialect.specs.declared.profiles.Profile.{Profile}
-use Rattle.unique.specs.Shelf.{diamonds_in}
 use Rattle.engine.specs.Steps.{Outcome, combine_step, given}
 use Rattle.engine.specs.Laws.{MapAfter}
 use Rattle.engine.proofs.Lawlike.{state_well}
@@ -16,12 +15,12 @@ pub returns-in_err-second : goal.returns-in_err-second
 returns-in_err-second g c =
     let s = c.args.self.now in
     let D = s.state.profile.meaning in
-    let ds = diamonds_in s.state.diamonds in
+    let ds = s.state.diamonds in
     let n = c.args.connective in
     let a = c.args.a in
     let b = c.args.b in
     let mid = c.combine.new.self in
-    let es = diamonds_in mid.state.diamonds in
+    let es = mid.state.diamonds in
     let one = c.in_ok-first.ensures in
     let two = c.in_err-second.ensures in
     let f = answered_ok (given (g.C.Cache.held s.cache s.state.table (key n a b))) (combine_step D ds n a b).0 c.in_ok-first.first one.answer in
@@ -36,15 +35,15 @@ pub returns : goal.returns
 returns g c =
     let s = c.args.self.now in
     let D = s.state.profile.meaning in
-    let ds = diamonds_in s.state.diamonds in
+    let ds = s.state.diamonds in
     let n = c.args.connective in
     let a = c.args.a in
     let b = c.args.b in
     let K = key n a b in
     let mid = c.combine.new.self in
     let last = c.combine-2.new.self in
-    let es = diamonds_in mid.state.diamonds in
-    let fs = diamonds_in last.state.diamonds in
+    let es = mid.state.diamonds in
+    let fs = last.state.diamonds in
     let one = c.in_ok-first.ensures in
     let two = c.in_ok-second.ensures in
     let gave = g.C.Cache.held s.cache s.state.table in
@@ -66,6 +65,6 @@ returns g c =
       profile = two.profile ∙ one.profile;
       long = two.long ∙ one.long;
       still = λ x r. let z : ◌≡◌ {A = ℕ} 0 1 = cc in absurd (omega arith);
-      map = map_twice g.C.Cache.keeps D es fs K e (combine_step D ds n a b).0 (combine_step D es n a b).0 gave between gives f.0 (ap (λ (p : Profile). (combine_step p.meaning es n a b).0) (sym one.profile) ∙ ap (λ (z : Outcome). z.0) o₂) one.map
-          (subst (λ (p : Profile). MapAfter g.C.Cache.keeps p.meaning fs K (combine_step p.meaning es n a b).0 between gives) one.profile two.map);
+      map = map_twice g.C.Cache.KEEPS D es fs K e (combine_step D ds n a b).0 (combine_step D es n a b).0 gave between gives f.0 (ap (λ (p : Profile). (combine_step p.meaning es n a b).0) (sym one.profile) ∙ ap (λ (z : Outcome). z.0) o₂) one.map
+          (subst (λ (p : Profile). MapAfter g.C.Cache.KEEPS p.meaning fs K (combine_step p.meaning es n a b).0 between gives) one.profile two.map);
     }

@@ -1,27 +1,28 @@
 use Rattle.std.proofs.Common.{◌≡◌, List, length, None, Option, refl, ap, ◌∙◌, subst, arith, rules}
 use lib.ListN.{length-replicate}
 use Rattle.cache.specs.declared.entries.Entry.{Entry}
-use Rattle.cache.specs.Tables.{table_places, Stands}
+use Rattle.cache.specs.Tables.{Stands}
 use Rattle.engine.proofs.Remembered.{nothing_stands}
 use Rattle.engine.proofs.engines.Engine.new.Goals as goal
 
 pub invariant_of-state : goal.invariant_of-state
 invariant_of-state g c =
     let t = c.in_ok-table.table in
-    let l : length (table_places c.forget.new.table) ≡ length (table_places t) = ap length c.forget.ensures.empty ∙ length-replicate (length (table_places t)) None in
-    let m : length (table_places t) ≡ g.C.Cache.wants c.args.cache = ap length c.in_ok-table.ensures ∙ length-replicate (g.C.Cache.wants c.args.cache) None in
+    let l : length c.forget.new.table ≡ length t = ap length c.forget.ensures.empty ∙ length-replicate (length t) None in
+    let m : length t ≡ g.C.Cache.wants c.args.cache = ap length c.in_ok-table.ensures ∙ length-replicate c.places.result None ∙ c.places.ensures in
     let w = g.met.C.Cache.roomy c.args.cache in
     record {
       spelled = search rules;
       proper = search rules;
       low = search rules;
+      few = search rules;
       wide = omega arith;
-      right = λ k e h. absurd (nothing_stands (length (table_places t)) k e (subst (λ (ps : List (Option Entry)). Stands ps k e) c.forget.ensures.empty h));
+      right = λ k e h. absurd (nothing_stands (length t) k e (subst (λ (ps : List (Option Entry)). Stands ps k e) c.forget.ensures.empty h));
     }
 
 pub returns : goal.returns
 returns g c =
     let t = c.in_ok-table.table in
-    let l : length (table_places c.forget.new.table) ≡ length (table_places t) = ap length c.forget.ensures.empty ∙ length-replicate (length (table_places t)) None in
-    let m : length (table_places t) ≡ g.C.Cache.wants c.args.cache = ap length c.in_ok-table.ensures ∙ length-replicate (g.C.Cache.wants c.args.cache) None in
+    let l : length c.forget.new.table ≡ length t = ap length c.forget.ensures.empty ∙ length-replicate (length t) None in
+    let m : length t ≡ g.C.Cache.wants c.args.cache = ap length c.in_ok-table.ensures ∙ length-replicate c.places.result None ∙ c.places.ensures in
     (search rules, refl, l ∙ m, c.forget.ensures.none)

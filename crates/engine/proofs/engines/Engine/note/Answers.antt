@@ -6,4 +6,4 @@ pub invariant_of-self : goal.invariant_of-self
 invariant_of-self g c =
     let s = c.args.self.now.state in
     let n = c.note.ensures.noted in
-    (s.spelled, (s.proper, (s.low, (omega (arith, s.wide, n.long), (noted_right s n c.requires, tt)))))
+    (s.spelled, (s.proper, (s.low, (s.few, (omega (arith, s.wide, n.long), (noted_right s n c.requires, tt))))))

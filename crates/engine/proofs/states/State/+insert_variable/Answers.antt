@@ -1,5 +1,4 @@
 use Rattle.std.proofs.Common.{◌≡◌, ℕ, ◌-◌, true, false, is_some, Some, Ok, Err, Result, sym, ap, ◌∙◌, subst, ap₂, arith}
-use Rattle.unique.specs.Shelf.{diamonds_in}
 use Rattle.std.proofs.lemmas.Result.{err_from_is_err_and}
 use Rattle.diagram.specs.declared.edges.Edge.{Edge}
 use Rattle.diagram.specs.declared.letters.Letter.TheVariants.{U}
@@ -19,7 +18,7 @@ pub make-requires : goal.make-requires
 make-requires t c =
     let s = c.args.self.now in
     let D = s.profile.meaning in
-    let ds = diamonds_in s.diamonds in
+    let ds = s.diamonds in
     let l : c.constant-low.result ≡ constant_record D (c.args.n - 1) false = c.constant-low.ensures ∙ ap (λ (m : Meaning). constant_record m (c.args.n - 1) false) c.meaning-meaning.ensures.value in
     let h : c.constant-high.result ≡ constant_record D (c.args.n - 1) true = c.constant-high.ensures ∙ ap (λ (m : Meaning). constant_record m (c.args.n - 1) true) c.meaning-meaning.ensures.value in
     let f = constants_fit D ds (c.args.n - 1) (omega arith) in
@@ -29,7 +28,7 @@ pub returns-then-i-eq0 : goal.returns-then-i-eq0
 returns-then-i-eq0 t c =
     let s = c.args.self.now in
     let D = s.profile.meaning in
-    let ds = diamonds_in s.diamonds in
+    let ds = s.diamonds in
     let l : c.constant-low.result ≡ constant_record D (c.args.n - 1) false = c.constant-low.ensures ∙ ap (λ (m : Meaning). constant_record m (c.args.n - 1) false) c.meaning-meaning.ensures.value in
     let h : c.constant-high.result ≡ constant_record D (c.args.n - 1) true = c.constant-high.ensures ∙ ap (λ (m : Meaning). constant_record m (c.args.n - 1) true) c.meaning-meaning.ensures.value in
     let a : inserted D ds (variable c.args.n c.args.i) ≡ inserted D ds (variable c.args.n 0) = ap (λ (k : ℕ). inserted D ds (variable c.args.n k)) c.if-i-eq0.true in
@@ -46,8 +45,8 @@ pub returns-in_err-edge : goal.returns-in_err-edge
 returns-in_err-edge t c =
     let s = c.args.self.now in
     let D = s.profile.meaning in
-    let ds = diamonds_in s.diamonds in
-    let xs = diamonds_in c.insert_variable.new.self.diamonds in
+    let ds = s.diamonds in
+    let xs = c.insert_variable.new.self.diamonds in
     let p = err_from_is_err_and c.from_residual.result c.from_residual.ensures.1 in
     let q : c.from_residual.result ≡ Err c.in_err-edge.field-0.0 = p.1 ∙ ap Err p.2 in
     record {
@@ -62,16 +61,16 @@ pub unwrap-requires : goal.unwrap-requires
 unwrap-requires t c =
     let s = c.args.self.now in
     let D = s.profile.meaning in
-    let ds = diamonds_in s.diamonds in
+    let ds = s.diamonds in
     ap is_some (c.with_letter.ensures
-    ∙ later_set D ((tested D).0 s.profile.sound) ds s.proper c.args.n c.args.i (omega arith) c.requires.below c.in_ok-edge.edge (diamonds_in c.insert_variable.new.self.diamonds) c.requires.short c.in_ok-edge.ensures.outcome)
+    ∙ later_set D ((tested D).0 s.profile.sound) ds s.proper c.args.n c.args.i (omega arith) c.requires.below c.in_ok-edge.edge c.insert_variable.new.self.diamonds c.requires.short c.in_ok-edge.ensures.outcome)
 
 pub returns : goal.returns
 returns t c =
     let s = c.args.self.now in
     let D = s.profile.meaning in
-    let ds = diamonds_in s.diamonds in
-    let xs = diamonds_in c.insert_variable.new.self.diamonds in
+    let ds = s.diamonds in
+    let xs = c.insert_variable.new.self.diamonds in
     let law = (tested D).0 s.profile.sound in
     let p : Some c.unwrap.result ≡ Some (edge_record (put U (edge_of c.in_ok-edge.edge))) =
     sym c.unwrap.ensures ∙ c.with_letter.ensures

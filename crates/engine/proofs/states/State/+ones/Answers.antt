@@ -1,12 +1,10 @@
-use Rattle.std.proofs.Common.{◌≡◌, ℕ, ◌+◌, ◌-◌, ◌^◌, ◌<◌, ◌≤◌, Bool, true, false, cond, List, sym, ap, ◌∙◌, subst, ap₂, arith}
-use Rattle.unique.specs.Shelf.{diamonds_in}
+use Rattle.std.proofs.Common.{◌≡◌, ℕ, ◌+◌, ◌-◌, ◌^◌, ◌<◌, ◌≤◌, Bool, true, false, cond, List, Some, None, sym, ap, ◌∙◌, subst, ap₂, arith}
 use Rattle.diagram.specs.declared.edges.Diamond.{Diamond}
 use Rattle.diagram.specs.declared.edges.Edge.{Edge}
-use Rattle.diagram.specs.declared.letters.Kind.TheVariants.{Mixed}
 use Rattle.diagram.specs.Rules.{ones}
 use Rattle.diagram.specs.Edges.{rule_of}
 use Rattle.diagram.specs.Dialects.{Lawful}
-use Rattle.diagram.specs.Records.{edge_of, store_of, kind_of, same_record}
+use Rattle.diagram.specs.Records.{edge_of, store_of, constant_of, same_record}
 use Rattle.diagram.proofs.Tests.{tested}
 use Rattle.engine.specs.declared.states.State.{State}
 use Rattle.engine.specs.States.{EdgeOfArity, half_at}
@@ -17,13 +15,13 @@ use Rattle.engine.proofs.states.State.+ones.Goals.{then-same-2, else-same-2}
 
 -- the diamonds of a state
 abbrev held : State → List Diamond
-held s = diamonds_in s.diamonds
+held s = s.diamonds
 
 law : (s : State) → Lawful s.profile.meaning
 law s = (tested s.profile.meaning).0 s.profile.sound
 
 -- an edge of n marks that is not constant: n is not 0, and without its mark it has n marks
-some_marks : (s : State) (e : Edge) (n : ℕ) → EdgeOfArity s.profile.meaning (held s) e n → kind_of e ≡ Mixed →
+some_marks : (s : State) (e : Edge) (n : ℕ) → EdgeOfArity s.profile.meaning (held s) e n → constant_of e ≡ None →
     (0 < n) × (n ≤ 20) × EdgeOfArity s.profile.meaning (held s) (unmarked e) n
 some_marks s e n a k =
     let D = s.profile.meaning in
@@ -34,66 +32,66 @@ half_of : (s : State) (b : Bool) (e u r : Edge) → edge_of r ≡ half_at b s.pr
     edge_of r ≡ half_at b s.profile.meaning (store_of (held s)) (edge_of (unmarked e))
 half_of s b e u r h p = h ∙ ap (λ (x : Edge). half_at b s.profile.meaning (store_of (held s)) (edge_of x)) p
 
-pub returns-in-AllZero : goal.returns-in-AllZero
-returns-in-AllZero t c =
+pub returns-in-Some-false : goal.returns-in-Some-false
+returns-in-Some-false t c =
     let s = c.args.self.now in
-    sym (ones_constant s.profile.meaning (law s) (held s) s.proper c.args.edge c.args.n c.requires false (sym c.in-AllZero.ensures))
+    sym (ones_constant s.profile.meaning (law s) (held s) s.proper c.args.edge c.args.n c.requires false (sym c.in-Some-false.ensures ∙ ap Some c.in-Some-false.field-0-test))
 
 pub assignments-requires : goal.assignments-requires
 assignments-requires t c =
     let s = c.args.self.now in
     marks_few s.profile.meaning (law s) (held s) s.proper c.args.edge c.args.n c.requires
 
-pub returns-in-AllOne : goal.returns-in-AllOne
-returns-in-AllOne t c =
+pub returns-in-Some-true : goal.returns-in-Some-true
+returns-in-Some-true t c =
     let s = c.args.self.now in
     c.assignments.ensures
-    ∙ sym (ones_constant s.profile.meaning (law s) (held s) s.proper c.args.edge c.args.n c.requires true (sym c.in-AllOne.ensures))
+    ∙ sym (ones_constant s.profile.meaning (law s) (held s) s.proper c.args.edge c.args.n c.requires true (sym c.in-Some-true.ensures ∙ ap Some c.in-Some-true.field-0-test))
 
 pub half-low-requires : goal.half-low-requires
 half-low-requires t c =
     let s = c.args.self.now in
-    let m = some_marks s c.args.edge c.args.n c.requires (sym c.in-Mixed.ensures) in
+    let m = some_marks s c.args.edge c.args.n c.requires (sym c.in-None.ensures) in
     record { edge = subst (λ (x : Edge). EdgeOfArity s.profile.meaning (held s) x c.args.n) (sym c.unmarked-upright.ensures) m.2; some = m.0 }
 
 pub half-high-requires : goal.half-high-requires
 half-high-requires t c =
     let s = c.args.self.now in
-    let m = some_marks s c.args.edge c.args.n c.requires (sym c.in-Mixed.ensures) in
+    let m = some_marks s c.args.edge c.args.n c.requires (sym c.in-None.ensures) in
     record { edge = subst (λ (x : Edge). EdgeOfArity s.profile.meaning (held s) x c.args.n) (sym c.unmarked-upright.ensures) m.2; some = m.0 }
 
 pub overflow_sub-n : goal.overflow_sub-n
-overflow_sub-n t c = (some_marks c.args.self.now c.args.edge c.args.n c.requires (sym c.in-Mixed.ensures)).0
+overflow_sub-n t c = (some_marks c.args.self.now c.args.edge c.args.n c.requires (sym c.in-None.ensures)).0
 
 pub assignments-requires-then-same : goal.assignments-requires-then-same
 assignments-requires-then-same t c =
-    let p = (some_marks c.args.self.now c.args.edge c.args.n c.requires (sym c.in-Mixed.ensures)).1 in
+    let p = (some_marks c.args.self.now c.args.edge c.args.n c.requires (sym c.in-None.ensures)).1 in
     omega arith
 
 pub returns-then-same : goal.returns-then-same
 returns-then-same t c =
     let s = c.args.self.now in
     c.assignments-then-same.ensures
-    ∙ both_opposite s.profile.meaning (law s) (held s) s.proper c.args.edge c.args.n c.requires (sym c.in-Mixed.ensures) c.half-low.result c.half-high.result
+    ∙ both_opposite s.profile.meaning (law s) (held s) s.proper c.args.edge c.args.n c.requires (sym c.in-None.ensures) c.half-low.result c.half-high.result
     (half_of s false c.args.edge c.unmarked-upright.result c.half-low.result c.half-low.ensures.half c.unmarked-upright.ensures)
     (half_of s true c.args.edge c.unmarked-upright.result c.half-high.result c.half-high.ensures.half c.unmarked-upright.ensures)
     c.half-low.ensures.edge (ap (same_record c.half-low.result) (sym c.flip.ensures) ∙ sym c.if-same.ensures)
 
 pub overflow_sub-n-2 : goal.overflow_sub-n-2
-overflow_sub-n-2 t c = (some_marks c.args.self.now c.args.edge c.args.n c.requires (sym c.in-Mixed.ensures)).0
+overflow_sub-n-2 t c = (some_marks c.args.self.now c.args.edge c.args.n c.requires (sym c.in-None.ensures)).0
 
 pub ones-of_low-requires : goal.ones-of_low-requires
 ones-of_low-requires t c =
-    let p = (some_marks c.args.self.now c.args.edge c.args.n c.requires (sym c.in-Mixed.ensures)).0 in
+    let p = (some_marks c.args.self.now c.args.edge c.args.n c.requires (sym c.in-None.ensures)).0 in
     let m = c.decreases in
     (omega arith, c.half-low.ensures.edge)
 
 pub overflow_sub-n-else-same-2 : goal.overflow_sub-n-else-same-2
-overflow_sub-n-else-same-2 t c = (some_marks c.args.self.now c.args.edge c.args.n c.requires (sym c.in-Mixed.ensures)).0
+overflow_sub-n-else-same-2 t c = (some_marks c.args.self.now c.args.edge c.args.n c.requires (sym c.in-None.ensures)).0
 
 pub ones-of_high-requires : goal.ones-of_high-requires
 ones-of_high-requires t c =
-    let p = (some_marks c.args.self.now c.args.edge c.args.n c.requires (sym c.in-Mixed.ensures)).0 in
+    let p = (some_marks c.args.self.now c.args.edge c.args.n c.requires (sym c.in-None.ensures)).0 in
     let m = c.decreases in
     (omega arith, c.half-high.ensures.edge)
 
@@ -107,7 +105,7 @@ of_halves-requires t c =
       | then-same-2 w ↦ w.of_high-is ∙ c.ones-of_low.ensures ∙ ones_same ds c.half-low.result c.half-high.result (sym w.if-same-2.ensures)
       | else-same-2 w ↦ w.of_high-is ∙ w.ones-of_high.ensures
     ] in
-    let p = both_most D (law s) ds s.proper c.args.edge c.args.n c.requires (sym c.in-Mixed.ensures) c.half-low.result c.half-high.result
+    let p = both_most D (law s) ds s.proper c.args.edge c.args.n c.requires (sym c.in-None.ensures) c.half-low.result c.half-high.result
     (half_of s false c.args.edge c.unmarked-upright.result c.half-low.result c.half-low.ensures.half c.unmarked-upright.ensures)
     (half_of s true c.args.edge c.unmarked-upright.result c.half-high.result c.half-high.ensures.half c.unmarked-upright.ensures) in
     record { short = marks_few D (law s) ds s.proper c.args.edge c.args.n c.requires; most = omega (arith, p.0, of_high, c.ones-of_low.ensures); few = omega (arith, p.1, of_high, c.ones-of_low.ensures) }
@@ -124,6 +122,6 @@ returns t c =
     ] in
     c.of_halves.ensures
     ∙ ap₂ (λ (x y : ℕ). cond c.args.edge.negated (2 ^ c.args.n - (x + y)) (x + y)) c.ones-of_low.ensures of_high
-    ∙ both_marked D (law s) ds s.proper c.args.edge c.args.n c.requires (sym c.in-Mixed.ensures) c.half-low.result c.half-high.result
+    ∙ both_marked D (law s) ds s.proper c.args.edge c.args.n c.requires (sym c.in-None.ensures) c.half-low.result c.half-high.result
     (half_of s false c.args.edge c.unmarked-upright.result c.half-low.result c.half-low.ensures.half c.unmarked-upright.ensures)
     (half_of s true c.args.edge c.unmarked-upright.result c.half-high.result c.half-high.ensures.half c.unmarked-upright.ensures)

@@ -2,8 +2,7 @@ use Rattle.std.proofs.Common.{List, length, Option, sym, subst}
 use Rattle.diagram.specs.Records.{store_of}
 use Rattle.diagram.proofs.Made.{shallow_met}
 use Rattle.cache.specs.declared.entries.Entry.{Entry}
-use Rattle.cache.specs.Tables.{table_places, Stands}
-use Rattle.unique.specs.Shelf.{diamonds_in}
+use Rattle.cache.specs.Tables.{Stands}
 use Rattle.engine.specs.Laws.{HeldWell}
 use Rattle.engine.proofs.Remembered.{nothing_stands}
 use Rattle.engine.proofs.states.State.cut.Goals as goal
@@ -15,7 +14,8 @@ invariant_of-self c =
     record {
       spelled = w.normal.1;
       proper = w.normal.0;
-      low = shallow_met (store_of (diamonds_in c.cut.new.self)) w.shallow;
+      low = shallow_met (store_of c.cut.new.self) w.shallow;
+      few = w.few;
       wide = s.wide;
-      right = λ k e h. absurd (nothing_stands (length (table_places s.table)) k e (subst (λ (ps : List (Option Entry)). Stands ps k e) c.requires.empty h));
+      right = λ k e h. absurd (nothing_stands (length s.table) k e (subst (λ (ps : List (Option Entry)). Stands ps k e) c.requires.empty h));
     }

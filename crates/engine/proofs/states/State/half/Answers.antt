@@ -1,5 +1,4 @@
 use Rattle.std.proofs.Common.{◌≡◌, ap, ◌∙◌}
-use Rattle.unique.specs.Shelf.{diamonds_in}
 use Rattle.diagram.specs.Records.{edge_of, store_of, spelled_edge}
 use Rattle.diagram.proofs.Tests.{tested}
 use Rattle.engine.specs.States.{half_at}
@@ -10,7 +9,7 @@ pub returns-then-edge : goal.returns-then-edge
 returns-then-edge c =
     let s = c.args.self.now in
     let D = s.profile.meaning in
-    let ds = diamonds_in s.diamonds in
+    let ds = s.diamonds in
     let u = c.upright_halves.ensures in
     let h = half_picked D (store_of ds) c.args.edge c.upright_halves.result.0 c.upright_halves.result.1 c.pick-half.result c.args.high u.spelled u.low u.high c.pick-half.ensures in
     let r : edge_of c.flip.result ≡ half_at c.args.high D (store_of ds) (edge_of c.args.edge) = ap edge_of c.flip.ensures ∙ h.1 c.if-edge.true in
@@ -23,7 +22,7 @@ pub returns-else-edge : goal.returns-else-edge
 returns-else-edge c =
     let s = c.args.self.now in
     let D = s.profile.meaning in
-    let ds = diamonds_in s.diamonds in
+    let ds = s.diamonds in
     let u = c.upright_halves.ensures in
     let h = half_picked D (store_of ds) c.args.edge c.upright_halves.result.0 c.upright_halves.result.1 c.pick-half.result c.args.high u.spelled u.low u.high c.pick-half.ensures in
     let r = h.2 c.if-edge.false in

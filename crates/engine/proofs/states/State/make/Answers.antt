@@ -1,6 +1,4 @@
 use Rattle.std.proofs.Common.{◌≡◌, ◌≤◌, length, is_some, Some, None, Ok, Err, Result, sym, refl, ap, ◌∙◌, subst, ap₂}
-use Rattle.unique.specs.Shelf.{diamonds_in}
-use Rattle.unique.proofs.Few.{few_in}
 use Rattle.std.proofs.lemmas.Result.{err_from_is_err_and}
 use Rattle.diagram.specs.declared.edges.Edge.{Edge}
 use Rattle.diagram.specs.declared.edges.Diamond.{Diamond}
@@ -19,15 +17,15 @@ pub unwrap-requires : goal.unwrap-requires
 unwrap-requires c =
     let s = c.args.self.now in
     let p : c.with_letter.result ≡ Some (edge_record (put c.in-Some.letter (source c.in-Some.letter (edge_of c.args.low) (edge_of c.args.high)))) =
-    c.with_letter.ensures ∙ ap (with_letter c.in-Some.letter) c.source.ensures ∙ letter_set s.profile.meaning (diamonds_in s.diamonds) c.args.low c.args.high c.requires c.in-Some.letter in
+    c.with_letter.ensures ∙ ap (with_letter c.in-Some.letter) c.source.ensures ∙ letter_set s.profile.meaning s.diamonds c.args.low c.args.high c.requires c.in-Some.letter in
     ap is_some p
 
 pub returns-in-Some : goal.returns-in-Some
 returns-in-Some c =
     let s = c.args.self.now in
     let D = s.profile.meaning in
-    let ds = diamonds_in s.diamonds in
-    let l : length ds ≤ 1024 = few_in s.diamonds in
+    let ds = s.diamonds in
+    let l : length ds ≤ 1024 = s.few in
     let e : letter_for D c.args.low c.args.high ≡ Some c.in-Some.letter =
     ap (λ (m : Meaning). letter_for m c.args.low c.args.high) (sym c.meaning.ensures.value) ∙ sym c.in-Some.ensures in
     let p : Some c.unwrap.result ≡ Some (edge_record (put c.in-Some.letter (source c.in-Some.letter (edge_of c.args.low) (edge_of c.args.high)))) =
@@ -45,16 +43,16 @@ add-requires c =
     let D = s.profile.meaning in
     let e : letter_for D c.args.low c.args.high ≡ None =
     ap (λ (m : Meaning). letter_for m c.args.low c.args.high) (sym c.meaning.ensures.value) ∙ sym c.in_default.ensures in
-    let j = joins_flipped D (diamonds_in s.diamonds) c.args.low c.args.high c.requires ((tested D).0 s.profile.sound) e c.if-low.true in
+    let j = joins_flipped D s.diamonds c.args.low c.args.high c.requires ((tested D).0 s.profile.sound) e c.if-low.true in
     let p : ◌≡◌ {A = Diamond} (record { low = other_mark c.args.low; high = other_mark c.args.high }) (record { low = c.flip.result; high = c.flip-then-low.result }) =
     λ i. record { low = sym c.flip.ensures i; high = sym c.flip-then-low.ensures i } in
-    subst (λ (d : Diamond). Joins D (diamonds_in s.diamonds) d) p j
+    subst (λ (d : Diamond). Joins D s.diamonds d) p j
 
 pub returns-in_err-edge : goal.returns-in_err-edge
 returns-in_err-edge c =
     let s = c.args.self.now in
     let D = s.profile.meaning in
-    let ds = diamonds_in s.diamonds in
+    let ds = s.diamonds in
     let e : letter_for D c.args.low c.args.high ≡ None =
     ap (λ (m : Meaning). letter_for m c.args.low c.args.high) (sym c.meaning.ensures.value) ∙ sym c.in_default.ensures in
     let o = c.in_err-edge.ensures.outcome ∙ ap₂ (λ (l h : Edge). kept ds (add (store_of ds) (edge_of l) (edge_of h))) c.flip.ensures c.flip-then-low.ensures in
@@ -62,8 +60,8 @@ returns-in_err-edge c =
     let q : c.from_residual.result ≡ Err c.in_err-edge.field-0.0 = p.1 ∙ ap Err p.2 in
     record {
       outcome =
-          ap (λ (r : Result Edge Refusal). (r, diamonds_in c.add.new.self.diamonds)) q
-          ∙ sym (made_flipped D ds c.args.low c.args.high c.requires e c.if-low.true ∙ kept_flipped ds (add (store_of ds) (flip (edge_of c.args.low)) (flip (edge_of c.args.high))) (Err c.in_err-edge.field-0.0) (diamonds_in c.add.new.self.diamonds) o);
+          ap (λ (r : Result Edge Refusal). (r, c.add.new.self.diamonds)) q
+          ∙ sym (made_flipped D ds c.args.low c.args.high c.requires e c.if-low.true ∙ kept_flipped ds (add (store_of ds) (flip (edge_of c.args.low)) (flip (edge_of c.args.high))) (Err c.in_err-edge.field-0.0) c.add.new.self.diamonds o);
       profile = c.in_err-edge.ensures.profile;
       table = c.in_err-edge.ensures.table;
     }
@@ -72,14 +70,14 @@ pub returns-then-low : goal.returns-then-low
 returns-then-low c =
     let s = c.args.self.now in
     let D = s.profile.meaning in
-    let ds = diamonds_in s.diamonds in
+    let ds = s.diamonds in
     let e : letter_for D c.args.low c.args.high ≡ None =
     ap (λ (m : Meaning). letter_for m c.args.low c.args.high) (sym c.meaning.ensures.value) ∙ sym c.in_default.ensures in
     let o = c.in_ok-edge.ensures.outcome ∙ ap₂ (λ (l h : Edge). kept ds (add (store_of ds) (edge_of l) (edge_of h))) c.flip.ensures c.flip-then-low.ensures in
     record {
       outcome =
-          ap (λ (r : Edge). (Ok r, diamonds_in c.add.new.self.diamonds)) c.flip-then-low-2.ensures
-          ∙ sym (made_flipped D ds c.args.low c.args.high c.requires e c.if-low.true ∙ kept_flipped ds (add (store_of ds) (flip (edge_of c.args.low)) (flip (edge_of c.args.high))) (Ok c.in_ok-edge.edge) (diamonds_in c.add.new.self.diamonds) o);
+          ap (λ (r : Edge). (Ok r, c.add.new.self.diamonds)) c.flip-then-low-2.ensures
+          ∙ sym (made_flipped D ds c.args.low c.args.high c.requires e c.if-low.true ∙ kept_flipped ds (add (store_of ds) (flip (edge_of c.args.low)) (flip (edge_of c.args.high))) (Ok c.in_ok-edge.edge) c.add.new.self.diamonds o);
       profile = c.in_ok-edge.ensures.profile;
       table = c.in_ok-edge.ensures.table;
     }
@@ -90,13 +88,13 @@ add-requires-2 c =
     let D = s.profile.meaning in
     let e : letter_for D c.args.low c.args.high ≡ None =
     ap (λ (m : Meaning). letter_for m c.args.low c.args.high) (sym c.meaning.ensures.value) ∙ sym c.in_default.ensures in
-    joins_upright D (diamonds_in s.diamonds) c.args.low c.args.high c.requires e c.if-low.false
+    joins_upright D s.diamonds c.args.low c.args.high c.requires e c.if-low.false
 
 pub returns : goal.returns
 returns c =
     let s = c.args.self.now in
     let D = s.profile.meaning in
-    let ds = diamonds_in s.diamonds in
+    let ds = s.diamonds in
     let e : letter_for D c.args.low c.args.high ≡ None =
     ap (λ (m : Meaning). letter_for m c.args.low c.args.high) (sym c.meaning.ensures.value) ∙ sym c.in_default.ensures in
     record {

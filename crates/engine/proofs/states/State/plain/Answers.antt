@@ -1,7 +1,6 @@
-use Rattle.std.proofs.Common.{◌≡◌, Bool, sym, subst}
+use Rattle.std.proofs.Common.{◌≡◌, sym, subst}
 use Rattle.diagram.specs.Edges.{sign}
-use Rattle.cache.specs.declared.entries.Key.{Key}
-use Rattle.unique.specs.Shelf.{diamonds_in}
+use Rattle.basics.specs.declared.plain.Plain.{Plain}
 use Rattle.engine.specs.States.{KeyOfArity}
 use Rattle.engine.proofs.Lawlike.{state_well}
 use Rattle.engine.proofs.Halfwise.{joint_of}
@@ -12,10 +11,10 @@ pub returns-then-negates : goal.returns-then-negates
 returns-then-negates c =
     let s = c.args.self.now in
     let D = s.profile.meaning in
-    let ds = diamonds_in s.diamonds in
-    let is = sym c.plain.ensures in
+    let ds = s.diamonds in
+    let is = sym c.of.ensures in
     record {
-      key = subst (λ (r : Key × Bool). KeyOfArity D ds r.0 c.args.n) is (plain_fit D ds (state_well s) c.args.key c.args.n c.requires);
+      key = subst (λ (r : Plain). KeyOfArity D ds r.key c.args.n) is (plain_fit D ds (state_well s) c.args.key c.args.n c.requires);
       mark = λ _. sym c.if-negates.ensures;
-      rule = subst (λ (r : Key × Bool). joint_of ds c.args.key ≡ sign r.1 (joint_of ds r.0)) is (plain_means D ds (state_well s) c.args.key c.args.n c.requires);
+      rule = subst (λ (r : Plain). joint_of ds c.args.key ≡ sign r.negated (joint_of ds r.key)) is (plain_means D ds (state_well s) c.args.key c.args.n c.requires);
     }

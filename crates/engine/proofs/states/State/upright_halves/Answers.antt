@@ -1,11 +1,9 @@
-use Rattle.std.proofs.Common.{◌≡◌, ◌-◌, false, List, length, get_or, sym, ap, ◌∙◌, arith}
-use Rattle.unique.specs.Shelf.{diamonds_in}
+use Rattle.std.proofs.Common.{◌≡◌, ◌-◌, List, length, get_or, sym, ap, ◌∙◌, arith}
 use Rattle.diagram.specs.declared.edges.Edge.{Edge}
 use Rattle.diagram.specs.declared.edges.Diamond.{Diamond}
 use Rattle.diagram.specs.declared.meanings.Meaning.{Meaning}
 use Rattle.diagram.specs.Records.{edge_of, spelled_edge, halves_on}
 use Rattle.diagram.proofs.Placed.{no_diamond}
-use Rattle.diagram.proofs.Recorded.{edge_made}
 use Rattle.engine.proofs.Halved.{standing, no_letters, to_diamond, letter_spelled, letter_low, letter_high, spelled_at, diamond_low, diamond_high}
 use Rattle.engine.proofs.states.State.upright_halves.Goals as goal
 
@@ -13,32 +11,31 @@ pub bounds-as_slice-k : goal.bounds-as_slice-k
 bounds-as_slice-k c =
     let s = c.args.self.now in
     let l = ap length c.as_slice.ensures in
-    omega (arith, standing s.profile.meaning (diamonds_in s.diamonds) c.args.edge c.args.n c.requires.edge c.in-Diamond.k c.in-Diamond.is, l)
+    omega (arith, standing s.profile.meaning s.diamonds c.args.edge c.args.n c.requires.edge c.in-Diamond.k c.in-Diamond.is, l)
 
 pub returns-in-Some : goal.returns-in-Some
 returns-in-Some c =
     let s = c.args.self.now in
     let D = s.profile.meaning in
-    let ds = diamonds_in s.diamonds in
+    let ds = s.diamonds in
     let e = c.args.edge in
     let n = c.args.n in
     let l = c.in-Some.letter in
-    let w = c.in-Some.word in
-    let o = c.in-Some.ensures in
-    let p : c.halves_on.result ≡ halves_on D (n - 1) l (edge_made false (e.length - 1) w e.target) =
-    c.halves_on.ensures ∙ ap (λ (m : Meaning). halves_on m (n - 1) l (edge_made false (e.length - 1) w e.target)) c.meaning.ensures.value in
-    let k = letter_spelled D ds e n c.requires.edge l w o.letters o.rest in
+    let d = c.in-Some.below in
+    let b = sym c.in-Some.ensures.value in
+    let p : c.halves_on.result ≡ halves_on D (n - 1) l d = c.halves_on.ensures ∙ ap (λ (m : Meaning). halves_on m (n - 1) l d) c.meaning.ensures.value in
+    let k = letter_spelled D ds e n c.requires.edge l d b in
     record {
       spelled = (ap (λ (h : Edge × Edge). spelled_edge h.0) p ∙ k.0, ap (λ (h : Edge × Edge). spelled_edge h.1) p ∙ k.1);
-      low = ap (λ (h : Edge × Edge). edge_of h.0) p ∙ letter_low D ds e n c.requires.edge l w o.letters o.rest;
-      high = ap (λ (h : Edge × Edge). edge_of h.1) p ∙ letter_high D ds e n c.requires.edge l w o.letters o.rest;
+      low = ap (λ (h : Edge × Edge). edge_of h.0) p ∙ letter_low D ds e n c.requires.edge l d b;
+      high = ap (λ (h : Edge × Edge). edge_of h.1) p ∙ letter_high D ds e n c.requires.edge l d b;
     }
 
 pub returns-in-Diamond : goal.returns-in-Diamond
 returns-in-Diamond c =
     let s = c.args.self.now in
     let D = s.profile.meaning in
-    let ds = diamonds_in s.diamonds in
+    let ds = s.diamonds in
     let e = c.args.edge in
     let n = c.args.n in
     let k = c.in-Diamond.k in
@@ -54,4 +51,4 @@ returns-in-Diamond c =
 pub returns-in_default : goal.returns-in_default
 returns-in_default c =
     let s = c.args.self.now in
-    absurd (to_diamond s.profile.meaning (diamonds_in s.diamonds) c.args.edge c.args.n c.requires.edge c.requires.some (sym c.in-None.ensures.value) c.in_default.not-Diamond)
+    absurd (to_diamond s.profile.meaning s.diamonds c.args.edge c.args.n c.requires.edge c.requires.some (sym c.in-None.ensures.value) c.in_default.not-Diamond)

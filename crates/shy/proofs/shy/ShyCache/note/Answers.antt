@@ -1,7 +1,6 @@
-use Rattle.std.proofs.Common.{◌+◌, Bool, false, cond, eqb, None, sym, refl, subst}
-use Rattle.cache.specs.Caches.{Noted}
-use Rattle.cache.specs.Placing.{given_at, remainder_within, put_noted}
-use Rattle.shy.specs.Shy.{shy_place}
+use Rattle.std.proofs.Common.{◌≡◌, ℕ, eqb, set, Some, refl, subst}
+use Rattle.cache.specs.Placing.{entry, given_at, put_noted}
+use Rattle.shy.specs.Shy.{key_lengths}
 use Rattle.shy.specs.Hidden.{hidden_noted}
 use Rattle.shy.proofs.shy.ShyCache.note.Goals as goal
 
@@ -10,11 +9,9 @@ returns c =
     let key = c.args.key in
     let edge = c.args.edge in
     let before = c.args.table.now in
-    let after = c.put_at_place.new.table in
+    let after = c.note_at.new.self in
     let was = c.args.self.now.shut in
-    let open-noted = put_noted shy_place (λ n k. remainder_within n (k.connective + k.left.length + k.right.length)) before after key edge c.put_at_place.ensures in
-    let noted = hidden_noted before after (given_at shy_place before) (given_at shy_place after) key edge open-noted was (eqb key.connective c.args.self.now.closer) in
-    record {
-      noted = subst (λ (shut : Bool). Noted false before after (λ k. cond was None (given_at shy_place before k)) (λ k. cond shut None (given_at shy_place after k)) key edge) (sym c.shut_after-self.ensures) noted;
-      places = refl;
-    }
+    let put = subst (λ (place : ℕ). after ≡ set before place (Some (entry key edge))) c.shy_place-place.ensures c.note_at.ensures in
+    let open-noted = put_noted key_lengths before after key edge put in
+    let noted = hidden_noted before after (given_at key_lengths before) (given_at key_lengths after) key edge open-noted was (eqb key.connective c.args.self.now.closer) in
+    record { noted = noted; places = refl }
