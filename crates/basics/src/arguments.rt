@@ -1,5 +1,6 @@
 // What calls ask of their numbers, and the key of a combination.
 ghost use Rattle.std.specs.Prelude.{◌≡◌, if◌then◌else◌, Ok, Err, nat_le, nat_lt};
+ghost use Rattle.cache.specs.Entries.{key};
 ghost use Rattle.diagram.specs.declared.refusals.Refusal.TheVariants.{NoConnective};
 
 use cache::entries::Key;
@@ -22,7 +23,7 @@ pub fn checked_connective(connective: u32) -> Result<u8, Refusal>
 
 // The key of a combination.
 pub fn key_of(connective: u8, a: Edge, b: Edge) -> Key
-    ensures { result ≡ record { connective = connective; left = a; right = b } }
+    ensures { result ≡ key connective a b }
 {
     Key {
         connective,

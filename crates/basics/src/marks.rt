@@ -6,7 +6,7 @@ ghost use Rattle.basics.specs.Marks.{marked, newly};
 use diagram::edges::{Diamond, Target};
 use std::mem;
 
-// Marks the target, if it is a diamond, and says how many marks that sets anew.
+// Marks the target, if it is a diamond, and says how many marks that sets anew. By index: after `get_mut` on a slice the check knows its length alone.
 pub fn mark(marks: &mut [bool], target: Target) -> usize
     ensures marks { marks.new ≡ marked marks.old (target_of target) }
     ensures new { result ≡ newly marks.old (target_of target) }

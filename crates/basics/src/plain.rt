@@ -1,5 +1,6 @@
 // Combinations of unmarked edges: in a dialect that negates, every combination is one of these, or its negation.
 ghost use Rattle.std.specs.Prelude.{◌≡◌};
+ghost use Rattle.diagram.specs.Dialects.{flips};
 ghost use Rattle.basics.specs.Plain.{unmarked, turned, bits, plain_mark, plain_value, plain_key};
 
 use crate::settling::connect;
@@ -16,6 +17,20 @@ pub fn unmarked(edge: Edge) -> Edge
     }
 }
 
+// The edge, with the other mark where `negated` holds.
+pub fn turned(edge: Edge, negated: bool) -> Edge
+    ensures { result ≡ turned negated edge }
+{
+    if negated { edge.flip() } else { edge }
+}
+
+// The value, reversed where `negated` holds.
+fn reversed(negated: bool, value: bool) -> bool
+    ensures { result ≡ flips negated value }
+{
+    value != negated
+}
+
 // Whether the combination is 1 where both unmarked edges are 0.
 fn plain_mark(key: Key) -> bool
     ensures { result ≡ plain_mark key }
@@ -27,8 +42,9 @@ fn plain_mark(key: Key) -> bool
 fn plain_value(key: Key, x: bool, y: bool) -> bool
     ensures { result ≡ plain_value key x y }
 {
-    let value = connect(key.connective, x ^ key.left.negated, y ^ key.right.negated);
-    value ^ plain_mark(key)
+    let left = reversed(key.left.negated, x);
+    let right = reversed(key.right.negated, y);
+    reversed(plain_mark(key), connect(key.connective, left, right))
 }
 
 // The connective with the value 0 at (0,0) and these at (0,1), (1,0) and (1,1).
@@ -67,6 +83,6 @@ impl Plain {
     pub fn restore(self, edge: Edge) -> Edge
         ensures { result ≡ turned self.negated edge }
     {
-        if self.negated { edge.flip() } else { edge }
+        turned(edge, self.negated)
     }
 }

@@ -7,7 +7,7 @@ use cache::entries::Key;
 use diagram::edges::Edge;
 use diagram::meanings::Meaning;
 
-// The worth of the bit that is a connective's value at (a, b).
+// The worth of the bit that is a connective's value at (a, b); the four lines are the definition, a shift would have to be worked out.
 fn worth(a: bool, b: bool) -> u8
     ensures { result ≡ worth a b }
 {

@@ -1,9 +1,13 @@
 -- Keys compared, and what an entry says of a key.
-use Rattle.std.specs.Prelude.{Bool, cond, ◌&&◌, Some, None, Option, ◌==◌}
+use Rattle.std.specs.Prelude.{ℕ, Bool, cond, ◌&&◌, Some, None, Option, ◌==◌}
 use Rattle.diagram.specs.declared.edges.Edge.{Edge}
 use Rattle.diagram.specs.Records.{same_record}
 use Rattle.cache.specs.declared.entries.Key.{Key}
 use Rattle.cache.specs.declared.entries.Entry.{Entry}
+
+-- the key of the connective c and the edges a and b
+abbrev pub key : ℕ → Edge → Edge → Key
+key c a b = record { connective = c; left = a; right = b }
 
 -- the same connective, left edge and right edge
 abbrev pub same_key : Key → Key → Bool

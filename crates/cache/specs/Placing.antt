@@ -1,22 +1,19 @@
 -- Entries read and written at one place for each key.
-use Rattle.std.specs.Prelude.{◌≡◌, ℕ, ◌%◌, ◌<◌, ◌≤◌, Bool, true, false, cond, ◌&&◌, ◌⊎◌, List, length, get_or, Some, None, Option, ◌==◌, ◌≢◌, nat_eq, slice_index_or, slice_set, refl}
+use Rattle.std.specs.Prelude.{◌≡◌, ℕ, ◌%◌, ◌<◌, ◌≤◌, Bool, true, false, cond, ◌&&◌, ◌⊎◌, List, length, get_or, replicate, Some, None, Option, ◌==◌, ◌≢◌, nat_eq, slice_index_or, slice_set, refl}
 use Rattle.std.proofs.Common.{sym, ap, subst, ◌∙◌, inl, inr, ⊎_elim, mod-lt, arith, length-set, get_or-set_same, get_or-set_other}
-use Rattle.std.proofs.lemmas.List.{set_past, get_or_past}
+use Rattle.std.proofs.lemmas.List.{set_past, get_or_past, length-replicate, get_or-replicate}
 use Rattle.std.proofs.lemmas.Bool.{cases_lt, cases_eq, eqb-true, eq-eqb, ne_eqb, and_parts, and_from}
 use Rattle.diagram.specs.declared.edges.Edge.{Edge}
 use Rattle.diagram.specs.Records.{same_record}
 use Rattle.diagram.proofs.Recorded.{same_record_refl, same_record_eq}
 use Rattle.cache.specs.declared.entries.Key.{Key}
 use Rattle.cache.specs.declared.entries.Entry.{Entry}
-use Rattle.cache.specs.Entries.{same_key, edge_for}
+use Rattle.cache.specs.Entries.{key, same_key, edge_for}
 use Rattle.cache.specs.declared.tables.Table.{Table}
-use Rattle.cache.specs.Tables.{Stands, place_among}
+use Rattle.cache.specs.Tables.{Stands}
 use Rattle.cache.specs.Caches.{Noted}
 
 -- Keys --
-
-abbrev key_made : ℕ → Edge → Edge → Key
-key_made c l r = record { connective = c; left = l; right = r }
 
 pub same_key_refl : (k : Key) → same_key k k ≡ true
 same_key_refl k = and_from _ _ (eq-eqb k.connective k.connective refl) (and_from _ _ (same_record_refl k.left) (same_record_refl k.right))
@@ -28,7 +25,7 @@ same_key_eq a b h =
     let c = eqb-true a.connective b.connective p.0 in
     let l = same_record_eq a.left b.left q.0 in
     let r = same_record_eq a.right b.right q.1 in
-    λ i. key_made (c i) (l i) (r i)
+    λ i. key (c i) (l i) (r i)
 
 -- What a place has for a key --
 
@@ -59,11 +56,19 @@ other_edge k key e apart = go (same_key key k) refl where
 
 -- Places --
 
--- the place of a number is a place, if there is one
-pub place_within : (n x : ℕ) → 0 < n → place_among n x < n
-place_within n x some =
+-- a remainder by the number of places is a place
+pub remainder_within : (n x : ℕ) → 0 < n → cond (n == 0) 0 (x % n) < n
+remainder_within n x some =
     let full : nat_eq n 0 ≡ false = ne_eqb n 0 (λ e. omega (arith, e, some)) in
     subst (λ (b : Bool). cond b 0 (x % n) < n) (sym full) (mod-lt x some)
+
+-- nothing stands in an empty table
+pub none_stands : (n i : ℕ) → get_or {A = Option Entry} (replicate n None) i None ≡ None
+none_stands n i =
+    ⊎_elim
+    (λ (lt : i < n). get_or-replicate n i None None lt)
+    (λ (ge : n ≤ i). get_or_past (replicate n None) i None (subst (λ (m : ℕ). m ≤ i) (sym (length-replicate n None)) ge))
+    (cases_lt i n)
 
 -- where a write at i leaves a read at j as it was, or is what is read
 pub written : (es : List (Option Entry)) (i j : ℕ) (o : Option Entry) →
@@ -103,54 +108,60 @@ write_other es i j key edge k apart =
     (λ new. inr (ap (edge_for k) new.1 ∙ other_edge k key edge apart))
     (written es i j (Some (entry key edge)))
 
--- One place for each key, that of its number --
+-- One place for each key --
 
--- what a table gives for a key whose number is `number` of it
-abbrev pub given_at : (Key → ℕ) → Table → Key → Option Edge
-given_at number t k = edge_for k (slice_index_or t (place_among (length t) (number k)) None)
+-- what a table gives for a key whose place among n is p n
+abbrev pub given_at : (ℕ → Key → ℕ) → Table → Key → Option Edge
+given_at p t k = edge_for k (slice_index_or t (p (length t) k) None)
 
 -- what is given stands at the key's place
-pub given_stands : (number : Key → ℕ) (t : Table) (k : Key) (e : Edge) → given_at number t k ≡ Some e → Stands t k e
-given_stands number t k e h =
-    let place = place_among (length t) (number k) in
+pub given_stands : (p : ℕ → Key → ℕ) (t : Table) (k : Key) (e : Edge) → given_at p t k ≡ Some e → Stands t k e
+given_stands p t k e h =
+    let place = p (length t) k in
     (place, edge_read k (slice_index_or t place None) e h)
 
-module _ (number : Key → ℕ) (before after : Table) (key : Key) (edge : Edge)
-    (put : after ≡ slice_set before (place_among (length before) (number key)) (Some (entry key edge))) where
+-- an empty table gives nothing
+pub empty_gives_none : (p : ℕ → Key → ℕ) (t : Table) (n : ℕ) → t ≡ replicate n None → (k : Key) → given_at p t k ≡ None
+empty_gives_none p t n empty k =
+    let place = p (length t) k in
+    ap (λ (l : List (Option Entry)). edge_for k (slice_index_or l place None)) empty ∙ ap (edge_for k) (none_stands n place)
+
+module _ (p : ℕ → Key → ℕ) (within : (n : ℕ) (k : Key) → 0 < n → p n k < n) (before after : Table) (key : Key) (edge : Edge)
+    (put : after ≡ slice_set before (p (length before) key) (Some (entry key edge))) where
   places_kept : length after ≡ length before
-  places_kept = ap length put ∙ length-set before (place_among (length before) (number key)) (Some (entry key edge))
+  places_kept = ap length put ∙ length-set before (p (length before) key) (Some (entry key edge))
 
   -- what is read after the write
   read_after : (k : Key) →
-      given_at number after k ≡ edge_for k (slice_index_or (slice_set before (place_among (length before) (number key)) (Some (entry key edge))) (place_among (length before) (number k)) None)
+      given_at p after k ≡ edge_for k (slice_index_or (slice_set before (p (length before) key) (Some (entry key edge))) (p (length before) k) None)
   read_after k =
-      ap (λ (n : ℕ). edge_for k (slice_index_or after (place_among n (number k)) None)) places_kept
-      ∙ ap (λ (l : List (Option Entry)). edge_for k (slice_index_or l (place_among (length before) (number k)) None)) put
+      ap (λ (n : ℕ). edge_for k (slice_index_or after (p n k) None)) places_kept
+      ∙ ap (λ (l : List (Option Entry)). edge_for k (slice_index_or l (p (length before) k) None)) put
 
-  own_kept : 0 < length before → given_at number after key ≡ Some edge
-  own_kept some = read_after key ∙ write_own before (place_among (length before) (number key)) key edge (place_within (length before) (number key) some)
+  own_kept : 0 < length before → given_at p after key ≡ Some edge
+  own_kept some = read_after key ∙ write_own before (p (length before) key) key edge (within (length before) key some)
 
-  own_either : (given_at number after key ≡ Some edge) ⊎ (given_at number after key ≡ None)
+  own_either : (given_at p after key ≡ Some edge) ⊎ (given_at p after key ≡ None)
   own_either =
       ⊎_elim
       (λ (some : 0 < length before). inl (own_kept some))
       (λ (no : length before ≤ 0).
-      inr (ap (edge_for key) (get_or_past after (place_among (length after) (number key)) None (omega (arith, places_kept, no)))))
+      inr (ap (edge_for key) (get_or_past after (p (length after) key) None (omega (arith, places_kept, no)))))
       (cases_lt 0 (length before))
 
-  others_either : (k : Key) → (k ≢ key) → (given_at number after k ≡ given_at number before k) ⊎ (given_at number after k ≡ None)
+  others_either : (k : Key) → (k ≢ key) → (given_at p after k ≡ given_at p before k) ⊎ (given_at p after k ≡ None)
   others_either k apart =
       ⊎_elim
       (λ old. inl (read_after k ∙ old))
       (λ none. inr (read_after k ∙ none))
-      (write_other before (place_among (length before) (number key)) (place_among (length before) (number k)) key edge k apart)
+      (write_other before (p (length before) key) (p (length before) k) key edge k apart)
 
   -- an entry that is put at its key's place is noted
-  pub put_noted : Noted true before after (given_at number before) (given_at number after) key edge
+  pub put_noted : Noted true before after (given_at p before) (given_at p after) key edge
   put_noted = record {
     own = own_either;
     kept = λ _ some. own_kept some;
     others = others_either;
-    adds = λ k e s. write_adds before (place_among (length before) (number key)) key edge k e (subst (λ (l : List (Option Entry)). Stands l k e) put s);
+    adds = λ k e s. write_adds before (p (length before) key) key edge k e (subst (λ (l : List (Option Entry)). Stands l k e) put s);
     long = places_kept;
   }

@@ -16,6 +16,7 @@ pub trait Cache {
     // Whether a key gives its edge as soon as it is noted.
     const KEEPS: bool;
 
+    // the same, as clauses name it
     ghost KEEPS: { Bool };
 
     // How many places the cache wants in its table.
@@ -39,7 +40,7 @@ pub trait Cache {
         ensures noted { Noted KEEPS table.old table.new (held self.old table.old) (held self.new table.new) key edge }
         ensures places { wants self.new ≡ wants self.old };
 
-    // Empties the table and the map.
+    // Empties the table and the map; no body here, since what else holds the map is the cache's own.
     fn forget(&mut self, table: &mut Table)
         ensures empty { table.new ≡ replicate (length table.old) None }
         ensures none { (k : Key) → held self.new table.new k ≡ None }

@@ -6,7 +6,7 @@ use crate::entries::{Entry, Key};
 use diagram::edges::Edge;
 
 impl Key {
-    // Whether the two keys have the same connective and the same two edges.
+    // Whether the two keys have the same connective and the same two edges: `==`, promised to be the test in specs/.
     pub fn same(self, other: Key) -> bool
         ensures { result ≡ same_key self other }
     {

@@ -1,6 +1,6 @@
 // The cache in which each key has one place; keys that share a place take it from each other.
 ghost use Rattle.std.specs.Prelude.{◌≡◌, true, length};
-ghost use Rattle.cache.specs.Slots.{key_number, slot_place, slot_held};
+ghost use Rattle.cache.specs.Slots.{slot_place, slot_held};
 ghost use Rattle.cache.specs.Placing.{given_stands};
 ghost use Rattle.std.proofs.Common.{rules};
 
@@ -33,7 +33,7 @@ impl Cache for Slot {
 
     ghost held = { λ _ t k. slot_held t k };
 
-    ghost honest = { λ c t k e h. given_stands key_number t k e h };
+    ghost honest = { λ c t k e h. given_stands slot_place t k e h };
 
     ghost roomy = { Prim.search rules };
 

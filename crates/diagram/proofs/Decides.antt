@@ -1,5 +1,6 @@
 -- The tests of edges and stores, read and met.
-use Rattle.std.proofs.Common.{◌≡◌, ℕ, Bool, true, false, cond, not, ◌&&◌, eqb, ltb, ◌≢◌, List, [], ◌∷◌, length, Some, None, Option, sym, refl, ap, subst, arith, ltb→lt, lt→ltb}
+use Rattle.std.proofs.Common.{◌≡◌, ℕ, Bool, true, false, cond, not, ◌&&◌, eqb, ◌≢◌, List, [], ◌∷◌, length, Some, None, Option, sym, refl, ap, subst, ◌∙◌}
+use Rattle.std.proofs.lemmas.Bool.{ltb-true, lt-ltb, and_from, and_parts, eq-eqb, eqb-true, not-true, cond-true, cond-false, cond_both}
 use Rattle.diagram.specs.Rules.{arity}
 use Rattle.diagram.specs.declared.letters.Letter.{Letter}
 use Rattle.diagram.specs.Edges.{Target, terminal, diamond, Edge, Diamond, Store, rule_of}
@@ -8,36 +9,20 @@ use Rattle.diagram.specs.Making.{choose, find, upright, low_upright, high_uprigh
 use Rattle.diagram.specs.Acceptance.{Within, Spelled, Accepted, Addable, Normal, inside, usual, gives, nothing, well_spelled, accepts, admits, normal}
 use Rattle.diagram.proofs.Notions.{AcceptsRight}
 use Rattle.diagram.specs.Theorems.{NormalTested}
-use Rattle.diagram.proofs.Laws.{and_left, and_right, both, true_T, T_true, eqb_eq, eqb_same, same_refl, same_eq}
-
-untrue : (b : Bool) → not b ≡ true → b ≡ false
-untrue true e = sym e
-untrue false e = refl
-
-cond_left : (a b c : Bool) → cond a b c ≡ true → a ≡ true → b ≡ true
-cond_left true b c e h = e
-cond_left false b c e h = cc
-
-cond_right : (a b c : Bool) → cond a b c ≡ true → a ≡ false → c ≡ true
-cond_right true b c e h = cc
-cond_right false b c e h = e
-
-cond_both : (a b c : Bool) → (a ≡ true → b ≡ true) → (a ≡ false → c ≡ true) → cond a b c ≡ true
-cond_both true b c p q = p refl
-cond_both false b c p q = q refl
+use Rattle.diagram.proofs.Laws.{same_refl, same_eq}
 
 inside_within : (s : Store) (t : Target) → inside s t ≡ true → Within s t
 inside_within s (terminal b) e = tt
-inside_within s (diamond k) e = ltb→lt k (length s) (true_T (ltb k (length s)) e)
+inside_within s (diamond k) e = ltb-true k (length s) e
 
 within_inside : (s : Store) (t : Target) → Within s t → inside s t ≡ true
 within_inside s (terminal b) h = refl
-within_inside s (diamond k) h = T_true (ltb k (length s)) (lt→ltb k (length s) h)
+within_inside s (diamond k) h = lt-ltb k (length s) h
 
 usual_ended : (t : Target) → usual t ≡ true → t ≢ terminal true
-usual_ended (terminal true) e q = let z : ◌≡◌ {A = ℕ} 0 1 = cc in omega arith
-usual_ended (terminal false) e q = let z : ◌≡◌ {A = ℕ} 0 1 = cc in omega arith
-usual_ended (diamond k) e q = let z : ◌≡◌ {A = ℕ} 0 1 = cc in omega arith
+usual_ended (terminal true) e q = cc
+usual_ended (terminal false) e q = cc
+usual_ended (diamond k) e q = cc
 
 ended_usual : (t : Target) → t ≢ terminal true → usual t ≡ true
 ended_usual (terminal true) n = absurd (n refl)
@@ -63,36 +48,36 @@ module _ (D : Meaning) (s : Store) (t : Target) where
   spelled_read [] e = tt
   spelled_read (c ∷ w) e =
       let o = choose D (low_upright D s (c ∷ w) t) (high_upright D s (c ∷ w) t) in (
-        spelled_read w (and_left (well_spelled D s t w) (gives o (upright (c ∷ w) t)) e),
-        gives_some o (upright (c ∷ w) t) (and_right (well_spelled D s t w) (gives o (upright (c ∷ w) t)) e),
+        spelled_read w (and_parts (well_spelled D s t w) (gives o (upright (c ∷ w) t)) e).0,
+        gives_some o (upright (c ∷ w) t) (and_parts (well_spelled D s t w) (gives o (upright (c ∷ w) t)) e).1,
       )
 
   spelled_met : (w : List Letter) → Spelled D s t w → well_spelled D s t w ≡ true
   spelled_met [] p = refl
   spelled_met (c ∷ w) p =
       let o = choose D (low_upright D s (c ∷ w) t) (high_upright D s (c ∷ w) t) in
-      both (well_spelled D s t w) (gives o (upright (c ∷ w) t)) (spelled_met w p.0) (some_gives o (upright (c ∷ w) t) p.1)
+      and_from (well_spelled D s t w) (gives o (upright (c ∷ w) t)) (spelled_met w p.0) (some_gives o (upright (c ∷ w) t) p.1)
 
 accepts_read : (D : Meaning) (s : Store) (e : Edge) → accepts D s e ≡ true → Accepted D s e
 accepts_read D s e p =
     let a = inside s e.target in
     let b = cond D.negates (usual e.target) (not e.negated) in
     let c = well_spelled D s e.target e.word in
-    let q = and_right a (b && c) p in
-    let r = and_left b c q in
+    let q = (and_parts a (b && c) p).1 in
+    let r = (and_parts b c q).0 in
     record {
-      within = inside_within s e.target (and_left a (b && c) p);
-      signed = λ pos. untrue e.negated (cond_right D.negates (usual e.target) (not e.negated) r pos);
-      ended = λ neg. usual_ended e.target (cond_left D.negates (usual e.target) (not e.negated) r neg);
-      spelled = spelled_read D s e.target e.word (and_right b c q);
+      within = inside_within s e.target (and_parts a (b && c) p).0;
+      signed = λ pos. not-true e.negated (sym (cond-false D.negates (usual e.target) (not e.negated) pos) ∙ r);
+      ended = λ neg. usual_ended e.target (sym (cond-true D.negates (usual e.target) (not e.negated) neg) ∙ r);
+      spelled = spelled_read D s e.target e.word (and_parts b c q).1;
     }
 
 accepts_met : (D : Meaning) (s : Store) (e : Edge) → Accepted D s e → accepts D s e ≡ true
 accepts_met D s e a =
-    both (inside s e.target) (cond D.negates (usual e.target) (not e.negated) && well_spelled D s e.target e.word)
+    and_from (inside s e.target) (cond D.negates (usual e.target) (not e.negated) && well_spelled D s e.target e.word)
     (within_inside s e.target a.within)
-    (both (cond D.negates (usual e.target) (not e.negated)) (well_spelled D s e.target e.word)
-    (cond_both D.negates (usual e.target) (not e.negated) (λ neg. ended_usual e.target (a.ended neg)) (λ pos. ap not (a.signed pos)))
+    (and_from (cond D.negates (usual e.target) (not e.negated)) (well_spelled D s e.target e.word)
+    (cond_both D.negates (usual e.target) (not e.negated) (λ b. b ≡ true) (λ neg. ended_usual e.target (a.ended neg)) (λ pos. ap not (a.signed pos)))
     (spelled_met D s e.target e.word a.spelled))
 
 pub accepts_right : AcceptsRight
@@ -113,34 +98,34 @@ module _ (D : Meaning) (s : Store) (n : Diamond) where
 
   admits_read : admits D s n ≡ true → Addable D s n
   admits_read p =
-      let p₁ = and_right (accepts D s n.low) (accepts D s n.high && (t₂ && (t₃ && (t₄ && t₅)))) p in
-      let p₂ = and_right (accepts D s n.high) (t₂ && (t₃ && (t₄ && t₅))) p₁ in
-      let p₃ = and_right t₂ (t₃ && (t₄ && t₅)) p₂ in
-      let p₄ = and_right t₃ (t₄ && t₅) p₃ in
+      let p₁ = (and_parts (accepts D s n.low) (accepts D s n.high && (t₂ && (t₃ && (t₄ && t₅)))) p).1 in
+      let p₂ = (and_parts (accepts D s n.high) (t₂ && (t₃ && (t₄ && t₅))) p₁).1 in
+      let p₃ = (and_parts t₂ (t₃ && (t₄ && t₅)) p₂).1 in
+      let p₄ = (and_parts t₃ (t₄ && t₅) p₃).1 in
       record {
-        low_accepted = accepts_read D s n.low (and_left (accepts D s n.low) (accepts D s n.high && (t₂ && (t₃ && (t₄ && t₅)))) p);
-        high_accepted = accepts_read D s n.high (and_left (accepts D s n.high) (t₂ && (t₃ && (t₄ && t₅))) p₁);
-        level = eqb_eq (arity (rule_of s n.low)) (arity (rule_of s n.high)) (and_left t₂ (t₃ && (t₄ && t₅)) p₂);
-        unlettered = nothing_none (choose D n.low n.high) (and_left t₃ (t₄ && t₅) p₃);
-        upright_low = untrue n.low.negated (and_left t₄ t₅ p₄);
-        new = nothing_none (find s n) (and_right t₄ t₅ p₄);
+        low_accepted = accepts_read D s n.low (and_parts (accepts D s n.low) (accepts D s n.high && (t₂ && (t₃ && (t₄ && t₅)))) p).0;
+        high_accepted = accepts_read D s n.high (and_parts (accepts D s n.high) (t₂ && (t₃ && (t₄ && t₅))) p₁).0;
+        level = eqb-true (arity (rule_of s n.low)) (arity (rule_of s n.high)) (and_parts t₂ (t₃ && (t₄ && t₅)) p₂).0;
+        unlettered = nothing_none (choose D n.low n.high) (and_parts t₃ (t₄ && t₅) p₃).0;
+        upright_low = not-true n.low.negated (and_parts t₄ t₅ p₄).0;
+        new = nothing_none (find s n) (and_parts t₄ t₅ p₄).1;
       }
 
   admits_met : Addable D s n → admits D s n ≡ true
   admits_met a =
-      both (accepts D s n.low) (accepts D s n.high && (t₂ && (t₃ && (t₄ && t₅)))) (accepts_met D s n.low a.low_accepted)
-      (both (accepts D s n.high) (t₂ && (t₃ && (t₄ && t₅))) (accepts_met D s n.high a.high_accepted)
-      (both t₂ (t₃ && (t₄ && t₅)) (subst (λ (k : ℕ). eqb (arity (rule_of s n.low)) k ≡ true) a.level (eqb_same (arity (rule_of s n.low))))
-      (both t₃ (t₄ && t₅) (none_nothing (choose D n.low n.high) a.unlettered)
-      (both t₄ t₅ (ap not a.upright_low) (none_nothing (find s n) a.new)))))
+      and_from (accepts D s n.low) (accepts D s n.high && (t₂ && (t₃ && (t₄ && t₅)))) (accepts_met D s n.low a.low_accepted)
+      (and_from (accepts D s n.high) (t₂ && (t₃ && (t₄ && t₅))) (accepts_met D s n.high a.high_accepted)
+      (and_from t₂ (t₃ && (t₄ && t₅)) (subst (λ (k : ℕ). eqb (arity (rule_of s n.low)) k ≡ true) a.level (eq-eqb (arity (rule_of s n.low)) (arity (rule_of s n.low)) refl))
+      (and_from t₃ (t₄ && t₅) (none_nothing (choose D n.low n.high) a.unlettered)
+      (and_from t₄ t₅ (ap not a.upright_low) (none_nothing (find s n) a.new)))))
 
 normal_read : (D : Meaning) (s : Store) → normal D s ≡ true → Normal D s
 normal_read D [] e = tt
-normal_read D (n ∷ s) e = (normal_read D s (and_left (normal D s) (admits D s n) e), admits_read D s n (and_right (normal D s) (admits D s n) e))
+normal_read D (n ∷ s) e = (normal_read D s (and_parts (normal D s) (admits D s n) e).0, admits_read D s n (and_parts (normal D s) (admits D s n) e).1)
 
 normal_met : (D : Meaning) (s : Store) → Normal D s → normal D s ≡ true
 normal_met D [] h = refl
-normal_met D (n ∷ s) h = both (normal D s) (admits D s n) (normal_met D s h.0) (admits_met D s n h.1)
+normal_met D (n ∷ s) h = and_from (normal D s) (admits D s n) (normal_met D s h.0) (admits_met D s n h.1)
 
 pub normal_right : NormalTested
 normal_right D s = (normal_read D s, normal_met D s)

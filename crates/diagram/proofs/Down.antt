@@ -1,11 +1,11 @@
 -- Steps of walks, over any diamonds that go down.
 use Rattle.std.proofs.Common.{◌≡◌, ℕ, ◌<◌, Bool, true, false, cond, eqb, List, [], ◌∷◌, length, sym, refl, ap, ◌∙◌, not-suc-le-zero, arith}
+use Rattle.std.proofs.lemmas.Bool.{eqb-false, ne_eqb}
 use Rattle.diagram.specs.Edges.{Target, terminal, diamond, Diamond, Store, diamond_at}
 use Rattle.diagram.specs.declared.meanings.Meaning.{Meaning}
 use Rattle.diagram.specs.Acceptance.{Within, Normal}
 use Rattle.diagram.specs.Walks.{met, visit}
 use Rattle.diagram.proofs.Notions.{Lower, VisitStep}
-use Rattle.diagram.proofs.Split.{eqb_less, neqb_ne}
 
 within_next : (n : Diamond) (s : Store) (t : Target) → Within s t → Within (n ∷ s) t
 within_next n s (terminal b) w = tt
@@ -21,7 +21,7 @@ lower_at (n ∷ s) l k i = go (eqb k (length s)) refl (lower_at s l.0 k)
     go : (b : Bool) → eqb k (length s) ≡ b → (k < length s → Down s (diamond_at s k)) → Down (n ∷ s) (cond b n (diamond_at s k))
     go true e ih = (within_next n s n.low.target l.1.0, within_next n s n.high.target l.1.1)
     go false e ih =
-        let d = neqb_ne k (length s) e in
+        let d = eqb-false k (length s) e in
         let x = ih (omega arith) in
         (within_next n s (diamond_at s k).low.target x.0, within_next n s (diamond_at s k).high.target x.1)
 
@@ -37,7 +37,7 @@ visit_terminal (n ∷ s) b seen = refl
 
 pub visit_next : (n : Diamond) (s : Store) (t : Target) (seen : List ℕ) → Within s t → visit (n ∷ s) t seen ≡ visit s t seen
 visit_next n s (terminal b) seen w = sym (visit_terminal s b seen)
-visit_next n s (diamond k) seen w = rw (eqb_less k (length s) w)
+visit_next n s (diamond k) seen w = rw (ne_eqb k (length s) (omega (arith, w)))
 
 pub visit_step : VisitStep
 visit_step [] l k i seen = absurd (not-suc-le-zero i)
@@ -53,6 +53,6 @@ visit_step (n ∷ s) l k i seen = go (eqb k (length s)) refl (λ j. visit_step s
         ≡ cond (met seen k) seen (k ∷ visit (n ∷ s) (cond b n (diamond_at s k)).high.target (visit (n ∷ s) (cond b n (diamond_at s k)).low.target seen))
     go true e ih = ap (λ (r : List ℕ). cond (met seen k) seen (k ∷ r)) (sym (under n l.1))
     go false e ih =
-        let d = neqb_ne k (length s) e in
+        let d = eqb-false k (length s) e in
         let j : k < length s = omega arith in
         ih j ∙ ap (λ (r : List ℕ). cond (met seen k) seen (k ∷ r)) (sym (under (diamond_at s k) (lower_at s l.0 k j)))

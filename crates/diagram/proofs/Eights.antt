@@ -5,7 +5,7 @@ use Rattle.std.proofs.lemmas.Nat.{div-mul-add, mod-mul-add}
 use Rattle.std.proofs.lemmas.Bool.{lt-ltb, le-leb, ltb-true}
 use Rattle.diagram.specs.declared.letters.Letter.{Letter}
 use Rattle.diagram.specs.declared.edges.Word.{Word}
-use Rattle.diagram.specs.Letters.{letter_code, letter_of, letter_with}
+use Rattle.diagram.specs.Letters.{letter_code, letter_of}
 use Rattle.diagram.specs.Words.{letters_of, spells, word, peeled}
 use Rattle.diagram.proofs.Laws.{letter_of_code}
 use Rattle.diagram.proofs.Spelling.{code_most}
@@ -24,22 +24,6 @@ letters_step (suc n) x h = let p : suc n - 1 ≡ n = omega arith in rw p
 pub spells_step : (n x : ℕ) → 0 < n → spells n x ≡ (leb (x / 8 ^ (n - 1)) 5 && spells (n - 1) (x % 8 ^ (n - 1)))
 spells_step zero x h = absurd (omega arith)
 spells_step (suc n) x h = let p : suc n - 1 ≡ n = omega arith in rw p
-
-pub letter_some : (d : ℕ) (c : Letter) → letter_with d ≡ Some c → (leb d 5 ≡ true) × (letter_of d ≡ c)
-letter_some d c = go (leb d 5) refl
-  where
-    go : (b : Bool) → leb d 5 ≡ b → cond b (Some (letter_of d)) None ≡ Some c → (leb d 5 ≡ true) × (letter_of d ≡ c)
-    go true e p = (e, cc)
-    go false e p = let z : ◌≡◌ {A = ℕ} 0 1 = cc in absurd (omega arith)
-
-pub peel_some : (n x : ℕ) (c : Letter) → 0 < n → n ≤ 20 → letter_with (x / 8 ^ (n - 1)) ≡ Some c → peeled (word n x) ≡ Some (c, word (n - 1) (x % 8 ^ (n - 1)))
-peel_some n x c h l e =
-    let p = letter_some (x / 8 ^ (n - 1)) c e in
-    let a = lt-ltb 0 n h in
-    let b = le-leb n 20 l in
-    let d = p.0 in
-    let q = p.1 in
-    simp (a, b, d, q)
 
 -- what is peeled off a word is its topmost letter, and the word of the other letters
 pub peeled_parts : (w : Word) (c : Letter) (v : Word) → peeled w ≡ Some (c, v) →
@@ -66,9 +50,9 @@ peeled_parts w c v = go (ltb 0 n) refl (leb n 20) (leb (x / 8 ^ (n - 1)) 5) refl
           letters_step n x l ∙ ap (λ (z : Letter × Word). z.0 ∷ letters_of z.1.length z.1.digits) i,
           spells_step n x l ∙ s ∙ ap (λ (z : Letter × Word). spells z.1.length z.1.digits) i,
         )
-    go true p true false q h = let z : ◌≡◌ {A = ℕ} 0 1 = cc in absurd (omega arith)
-    go true p false d q h = let z : ◌≡◌ {A = ℕ} 0 1 = cc in absurd (omega arith)
-    go false p b d q h = let z : ◌≡◌ {A = ℕ} 0 1 = cc in absurd (omega arith)
+    go true p true false q h = absurd cc
+    go true p false d q h = absurd cc
+    go false p b d q h = absurd cc
 
 -- where nothing can be peeled, the word does not spell
 pub peel_none : (n x : ℕ) → 0 < n → peeled (word n x) ≡ None → (leb n 20 && spells n x) ≡ false
@@ -77,7 +61,7 @@ peel_none n x h e =
     rw (spells_step n x h) (go (leb n 20) (leb (x / 8 ^ (n - 1)) 5) (spells (n - 1) (x % 8 ^ (n - 1))) (letter_of (x / 8 ^ (n - 1)), word (n - 1) (x % 8 ^ (n - 1))) (simp a at e))
   where
     go : (b d r : Bool) (v : Letter × Word) → cond (b && d) (Some v) None ≡ None → (b && (d && r)) ≡ false
-    go true true r v p = let z : ◌≡◌ {A = ℕ} 0 1 = cc in absurd (omega arith)
+    go true true r v p = absurd cc
     go true false r v p = refl
     go false d r v p = refl
 

@@ -1,5 +1,6 @@
 -- Where making chooses a letter, the halves are those that the letter stands for; so the edge is accepted, and means what the halves mean.
-use Rattle.std.proofs.Common.{◌≡◌, ℕ, suc, Bool, true, false, cond, not, ◌&&◌, eqb, ◌⊎◌, List, [], ◌∷◌, length, replicate, Some, None, Option, sym, refl, ap, ◌∙◌, subst, ap₂, inl, inr, arith}
+use Rattle.std.proofs.Common.{◌≡◌, ℕ, suc, Bool, true, false, cond, not, ◌&&◌, eqb, ◌⊎◌, List, [], ◌∷◌, length, replicate, Some, None, Option, sym, refl, ap, ◌∙◌, subst, ap₂, inl, inr}
+use Rattle.std.proofs.lemmas.Bool.{and_parts}
 use Rattle.diagram.specs.Rules.{constant, ◌⋆◌, arity}
 use Rattle.diagram.specs.declared.letters.Letter.{Letter}
 use Rattle.diagram.specs.declared.letters.Letter.TheVariants.{U, X, C00, C01, C10, C11}
@@ -9,7 +10,7 @@ use Rattle.diagram.specs.Dialects.{look, Lawful, all_u, flips, constant_at, cons
 use Rattle.diagram.specs.declared.meanings.Meaning.{Meaning}
 use Rattle.diagram.specs.Making.{flat, source, written, choose, low_of, high_of, upright}
 use Rattle.diagram.specs.Acceptance.{Accepted}
-use Rattle.diagram.proofs.Laws.{arity_negate, arity_on, arity_sign, flip_flip, sense_put, and_left, and_right, letter_eq, same_eq}
+use Rattle.diagram.proofs.Laws.{arity_negate, arity_on, arity_sign, flip_flip, sense_put, letter_eq, same_eq}
 use Rattle.diagram.proofs.Signs.{flip?, choose_flip}
 use Rattle.diagram.proofs.Split.{flat_negating, flat_plain, flat_flip, letter_rule}
 
@@ -22,11 +23,11 @@ arity_spell (c ∷ w) b = arity_on c (spell w (constant b)) ∙ ap suc (arity_sp
 all_u_word : (w : List Letter) → all_u w ≡ true → w ≡ replicate (length w) U
 all_u_word [] e = refl
 all_u_word (c ∷ w) e =
-    ap₂ ◌∷◌ (letter_eq c U (and_left (eqb (letter_code c) 0) (all_u w) e)) (all_u_word w (and_right (eqb (letter_code c) 0) (all_u w) e))
+    ap₂ ◌∷◌ (letter_eq c U (and_parts (eqb (letter_code c) 0) (all_u w) e).0) (all_u_word w (and_parts (eqb (letter_code c) 0) (all_u w) e).1)
 
 pub not_other : (b : Bool) → is b None ≡ true → ⊥
-not_other true e = let z : ◌≡◌ {A = ℕ} 0 1 = cc in omega arith
-not_other false e = let z : ◌≡◌ {A = ℕ} 0 1 = cc in omega arith
+not_other true e = cc
+not_other false e = cc
 
 is_some : (b c : Bool) → is b (Some c) ≡ true → c ≡ b
 is_some true true e = refl
@@ -139,7 +140,7 @@ module _ (D : Meaning) (law : Lawful D) (s : Store) (l h : Edge) (la : Accepted 
       flat_constant D s h b ha (high_is b (constant_value l) (constant_value h) (D.negates && same l (flip h)) e) ∙ ap (λ (n : ℕ). flat D n b) (sym level)
 
   opposites : D.negates ≡ true → Opposed (constant_value l) (constant_value h) (D.negates && same l (flip h)) → h ≡ flip l
-  opposites neg (inl e) = sym (flip_flip h) ∙ ap flip (sym (same_eq l (flip h) (and_right D.negates (same l (flip h)) e)))
+  opposites neg (inl e) = sym (flip_flip h) ∙ ap flip (sym (same_eq l (flip h) (and_parts D.negates (same l (flip h)) e).1))
   opposites neg (inr x) =
       flat_constant D s h (not x.0) ha x.1.1
       ∙ ap (λ (n : ℕ). flat D n (not x.0)) (sym level)
@@ -147,9 +148,9 @@ module _ (D : Meaning) (law : Lawful D) (s : Store) (l h : Edge) (la : Accepted 
       ∙ ap flip (sym (flat_constant D s l x.0 la x.1.0))
 
   fits_halves : (c : Letter) → has_letter D c ≡ true → fits D c (look D l h) ≡ true → Lettered D s l h (put c (source c l h))
-  fits_halves U o e = let z : ◌≡◌ {A = ℕ} 0 1 = cc in absurd (omega arith)
+  fits_halves U o e = absurd cc
   fits_halves X o e =
-      let q = and_right D.negates (opposed (look D l h)) e in
+      let q = (and_parts D.negates (opposed (look D l h)) e).1 in
       record { c = X; has = o; is_put = refl; low_is = refl; high_is = opposites (law.has_x o) (opposed_is (constant_value l) (constant_value h) (D.negates && same l (flip h)) q) }
   fits_halves C00 o e = record { c = C00; has = o; is_put = refl; low_is = low_flat false e; high_is = refl }
   fits_halves C01 o e = record { c = C01; has = o; is_put = refl; low_is = low_flat true e; high_is = refl }
@@ -159,7 +160,7 @@ module _ (D : Meaning) (law : Lawful D) (s : Store) (l h : Edge) (la : Accepted 
   lettered_at : (e : Edge) (b : Bool) → same l h ≡ b → (o : Option Letter) → answer_at D (look D l h) ≡ o → cond b (Some (put U l)) (written o l h) ≡ Some e → Lettered D s l h e
   lettered_at e true sm o ans p =
       record { c = U; has = law.has_u; is_put = cc; low_is = refl; high_is = sym (same_eq l h sm) }
-  lettered_at e false sm None ans p = let z : ◌≡◌ {A = ℕ} 0 1 = cc in absurd (omega arith)
+  lettered_at e false sm None ans p = absurd cc
   lettered_at e false sm (Some c) ans p =
       let w = law.own (look D l h) c ans in
       let q : put c (source c l h) ≡ e = cc in
@@ -202,7 +203,7 @@ put_accepted_at D law s c false w t a p =
 put_accepted_at D law s c true w t a p = go D.negates refl
   where
     go : (b : Bool) → D.negates ≡ b → Accepted D s (put c (edge true w t))
-    go false pos = let q : ◌≡◌ {A = Bool} true false = a.signed pos in let z : ◌≡◌ {A = ℕ} 0 1 = cc in absurd (omega arith)
+    go false pos = let q = a.signed pos in absurd cc
     go true neg =
         let f = rule_of s (upright w t) in
         let n = arity f in

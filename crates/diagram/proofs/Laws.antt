@@ -1,5 +1,7 @@
 -- The laws of rules, letters and signs, and of the tests.
-use Rattle.std.proofs.Common.{◌≡◌, ℕ, zero, suc, Bool, true, false, cond, not, ◌&&◌, T, eqb, List, [], ◌∷◌, replicate, Some, None, Option, sym, refl, ap, ◌∙◌, subst, ap₂, eqb→eq}
+use Rattle.std.proofs.Common.{◌≡◌, ℕ, zero, suc, Bool, true, false, cond, not, ◌&&◌, eqb, List, [], ◌∷◌, replicate, Some, None, Option, sym, refl, ap, ◌∙◌, ap₂}
+use Rattle.std.proofs.Math.Bool.{not-not}
+use Rattle.std.proofs.lemmas.Bool.{and_parts, eq-eqb, eqb-true}
 use mathlib.Core.Bool.{beq}
 use Rattle.diagram.specs.Rules.{Rule, constant, ◌⋆◌, arity, negate, full}
 use Rattle.diagram.specs.declared.letters.Letter.{Letter}
@@ -9,14 +11,9 @@ use Rattle.diagram.specs.Edges.{Target, terminal, diamond, Edge, edge, Diamond, 
 use Rattle.diagram.specs.Dialects.{all_u, flips, constant_at, constant_value, look_at, look, turn}
 use Rattle.diagram.specs.declared.meanings.Meaning.{Meaning}
 use Rattle.diagram.specs.Making.{flat}
-use lib.Dec.{eqb_refl}
-
-pub not_not : (b : Bool) → not (not b) ≡ b
-not_not true = refl
-not_not false = refl
 
 pub negate_negate : (f : Rule) → negate (negate f) ≡ f
-negate_negate (constant b) = ap constant (not_not b)
+negate_negate (constant b) = ap constant (not-not b)
 negate_negate (f ⋆ g) = ap₂ ◌⋆◌ (negate_negate f) (negate_negate g)
 
 pub arity_negate : (f : Rule) → arity (negate f) ≡ arity f
@@ -65,7 +62,7 @@ spell_us (suc n) b = ap₂ ◌⋆◌ (spell_us n b) (spell_us n b)
 -- Signs --
 
 pub flip_flip : (e : Edge) → flip (flip e) ≡ e
-flip_flip e = ap (λ n. edge n e.word e.target) (not_not e.negated)
+flip_flip e = ap (λ n. edge n e.word e.target) (not-not e.negated)
 
 put_flip_at : (n : Bool) (c : Letter) (w : List Letter) (t : Target) → flip (put c (edge n w t)) ≡ put (partner c) (flip (edge n w t))
 put_flip_at true c w t = refl
@@ -105,31 +102,6 @@ sense_flat r D n b = go D.negates
 
 -- Tests --
 
-pub and_left : (a b : Bool) → a && b ≡ true → a ≡ true
-and_left true b e = refl
-and_left false b e = e
-
-pub and_right : (a b : Bool) → a && b ≡ true → b ≡ true
-and_right true b e = e
-and_right false b e = cc
-
-pub true_T : (b : Bool) → b ≡ true → T b
-true_T b e = subst T (sym e) tt
-
-pub both : (a b : Bool) → a ≡ true → b ≡ true → a && b ≡ true
-both true b p q = q
-both false b p q = p
-
-pub T_true : (b : Bool) → T b → b ≡ true
-T_true true t = refl
-T_true false t = absurd t
-
-pub eqb_same : (n : ℕ) → eqb n n ≡ true
-eqb_same n = T_true (eqb n n) (eqb_refl n)
-
-pub eqb_eq : (m n : ℕ) → eqb m n ≡ true → m ≡ n
-eqb_eq m n e = eqb→eq m n (true_T (eqb m n) e)
-
 pub letter_of_code : (c : Letter) → letter_of (letter_code c) ≡ c
 letter_of_code U = refl
 letter_of_code X = refl
@@ -139,7 +111,7 @@ letter_of_code C10 = refl
 letter_of_code C11 = refl
 
 pub letter_eq : (c d : Letter) → eqb (letter_code c) (letter_code d) ≡ true → c ≡ d
-letter_eq c d e = sym (letter_of_code c) ∙ ap letter_of (eqb_eq (letter_code c) (letter_code d) e) ∙ letter_of_code d
+letter_eq c d e = sym (letter_of_code c) ∙ ap letter_of (eqb-true (letter_code c) (letter_code d) e) ∙ letter_of_code d
 
 pub beq_refl : (b : Bool) → beq b b ≡ true
 beq_refl true = refl
@@ -153,34 +125,34 @@ beq_eq false false e = refl
 
 pub same_word_refl : (w : List Letter) → same_word w w ≡ true
 same_word_refl [] = refl
-same_word_refl (c ∷ w) = rw (eqb_same (letter_code c)) (same_word_refl w)
+same_word_refl (c ∷ w) = rw (eq-eqb (letter_code c) (letter_code c) refl) (same_word_refl w)
 
 pub same_word_eq : (w v : List Letter) → same_word w v ≡ true → w ≡ v
 same_word_eq [] [] e = refl
 same_word_eq [] (d ∷ v) e = cc
 same_word_eq (c ∷ w) [] e = cc
 same_word_eq (c ∷ w) (d ∷ v) e =
-    ap₂ ◌∷◌ (letter_eq c d (and_left (eqb (letter_code c) (letter_code d)) (same_word w v) e)) (same_word_eq w v (and_right (eqb (letter_code c) (letter_code d)) (same_word w v) e))
+    ap₂ ◌∷◌ (letter_eq c d (and_parts (eqb (letter_code c) (letter_code d)) (same_word w v) e).0) (same_word_eq w v (and_parts (eqb (letter_code c) (letter_code d)) (same_word w v) e).1)
 
 pub same_target_refl : (t : Target) → same_target t t ≡ true
 same_target_refl (terminal b) = beq_refl b
-same_target_refl (diamond k) = eqb_same k
+same_target_refl (diamond k) = eq-eqb k k refl
 
 pub same_target_eq : (t v : Target) → same_target t v ≡ true → t ≡ v
 same_target_eq (terminal b) (terminal c) e = ap terminal (beq_eq b c e)
 same_target_eq (terminal b) (diamond k) e = cc
 same_target_eq (diamond j) (terminal c) e = cc
-same_target_eq (diamond j) (diamond k) e = ap diamond (eqb_eq j k e)
+same_target_eq (diamond j) (diamond k) e = ap diamond (eqb-true j k e)
 
 pub same_refl : (e : Edge) → same e e ≡ true
 same_refl e = rw (beq_refl e.negated, same_word_refl e.word) (same_target_refl e.target)
 
 pub same_eq : (a b : Edge) → same a b ≡ true → a ≡ b
 same_eq a b e =
-    let p = beq_eq a.negated b.negated (and_left (beq a.negated b.negated) (same_word a.word b.word && same_target a.target b.target) e) in
-    let r = and_right (beq a.negated b.negated) (same_word a.word b.word && same_target a.target b.target) e in
-    let q = same_word_eq a.word b.word (and_left (same_word a.word b.word) (same_target a.target b.target) r) in
-    let t = same_target_eq a.target b.target (and_right (same_word a.word b.word) (same_target a.target b.target) r) in
+    let p = beq_eq a.negated b.negated (and_parts (beq a.negated b.negated) (same_word a.word b.word && same_target a.target b.target) e).0 in
+    let r = (and_parts (beq a.negated b.negated) (same_word a.word b.word && same_target a.target b.target) e).1 in
+    let q = same_word_eq a.word b.word (and_parts (same_word a.word b.word) (same_target a.target b.target) r).0 in
+    let t = same_target_eq a.target b.target (and_parts (same_word a.word b.word) (same_target a.target b.target) r).1 in
     λ i. edge (p i) (q i) (t i)
 
 pub same_diamond_refl : (n : Diamond) → same_diamond n n ≡ true
@@ -188,8 +160,8 @@ same_diamond_refl n = rw (same_refl n.low) (same_refl n.high)
 
 pub same_diamond_eq : (m n : Diamond) → same_diamond m n ≡ true → m ≡ n
 same_diamond_eq m n e =
-    let p = same_eq m.low n.low (and_left (same m.low n.low) (same m.high n.high) e) in
-    let q = same_eq m.high n.high (and_right (same m.low n.low) (same m.high n.high) e) in
+    let p = same_eq m.low n.low (and_parts (same m.low n.low) (same m.high n.high) e).0 in
+    let q = same_eq m.high n.high (and_parts (same m.low n.low) (same m.high n.high) e).1 in
     λ i. pair (p i) (q i)
 
 beq_not : (a b : Bool) → beq (not a) (not b) ≡ beq a b

@@ -1,5 +1,6 @@
 -- Edges of at most 20 marks, and stores whose diamonds have no more.
-use Rattle.std.proofs.Common.{◌≡◌, ℕ, ◌≤◌, Bool, true, false, cond, leb, Some, None, Option, ap, ◌∙◌, arith, le→leb, leb→le}
+use Rattle.std.proofs.Common.{◌≡◌, ℕ, ◌≤◌, Bool, true, false, cond, leb, Some, None, Option, ap, ◌∙◌, arith}
+use Rattle.std.proofs.lemmas.Bool.{leb-true, le-leb, and_from, and_parts}
 use Rattle.diagram.specs.Rules.{constant, ◌⋆◌, arity}
 use Rattle.diagram.specs.Edges.{Edge, pair, Store, flip, diamond_rule, rule_of}
 use Rattle.diagram.specs.declared.meanings.Meaning.{Meaning}
@@ -7,7 +8,7 @@ use Rattle.diagram.specs.Making.{choose, find, seat, add, flipped, make_by, make
 use Rattle.diagram.specs.Acceptance.{Shallow, accepts}
 use Rattle.diagram.specs.Theorems.{AcceptableTold, AcceptableTested}
 use Rattle.diagram.proofs.Notions.{InsertShallow}
-use Rattle.diagram.proofs.Laws.{and_left, and_right, both, true_T, T_true, arity_negate, sense_flip}
+use Rattle.diagram.proofs.Laws.{arity_negate, sense_flip}
 use Rattle.diagram.proofs.Sound.{rule_grown, insert_sound}
 use Rattle.diagram.proofs.Told.{accepted_told}
 use Rattle.diagram.proofs.Decides.{accepts_right}
@@ -23,10 +24,10 @@ acceptable_right D s e =
     let n = arity (rule_of s e) in (
       λ p.
           record {
-            accepted = x.0 (and_left (accepts D s e) (leb n 20) p);
-            short = leb→le n 20 (true_T (leb n 20) (and_right (accepts D s e) (leb n 20) p));
+            accepted = x.0 (and_parts (accepts D s e) (leb n 20) p).0;
+            short = leb-true n 20 (and_parts (accepts D s e) (leb n 20) p).1;
           },
-      λ a. both (accepts D s e) (leb n 20) (x.1 a.accepted) (T_true (leb n 20) (le→leb n 20 a.short)),
+      λ a. and_from (accepts D s e) (leb n 20) (x.1 a.accepted) (le-leb n 20 a.short),
     )
 
 -- Shallow stores --

@@ -2,14 +2,12 @@
 use Rattle.std.proofs.Common.{◌≡◌, ℕ, zero, suc, ◌+◌, ◌-◌, ◌*◌, ◌/◌, ◌%◌, ◌^◌, ◌<◌, ◌≤◌, ◌≢◌, Bool, true, false, cond, List, [], ◌∷◌, ◌++◌, length, replicate, eqb, sym, refl, ap, ◌∙◌, subst, ap₂, arith}
 use Rattle.std.specs.Fmt.{digits_onto, digit_glyph, digits, padded_integral, format_spec, char_count}
 use native.Mathlib.Nat.{pow-succ'}
-use Rattle.std.proofs.lemmas.Bool.{lt-ltb}
+use Rattle.std.proofs.lemmas.Bool.{lt-ltb, eqb-false, eqb-true}
 use Rattle.std.proofs.lemmas.List.{append-nil}
 use Rattle.diagram.specs.declared.letters.Letter.{Letter}
 use Rattle.diagram.specs.Letters.{letter_code}
 use Rattle.diagram.specs.Words.{numeral, letters_of, spells}
 use Rattle.diagram.specs.Printed.{digits_text}
-use Rattle.diagram.proofs.Laws.{eqb_eq}
-use Rattle.diagram.proofs.Split.{neqb_ne}
 use Rattle.diagram.proofs.Spelling.{code_most, numeral_less, words_written}
 use Rattle.diagram.proofs.Recorded.{spells_read}
 
@@ -54,7 +52,7 @@ last_padded (suc k) (suc n) x acc h p l =
     go : (b : Bool) → eqb (x / 8) 0 ≡ b → (0 < n → x / 8 < 8 ^ n → replicate (n + suc (length acc) - length more) 48 ++ more ≡ last n (x / 8) (digit_glyph false (x % 8) ∷ acc)) →
         replicate (suc n + length acc - length (after b)) 48 ++ after b ≡ last n (x / 8) ((48 + x % 8) ∷ acc)
     go true e again =
-        let z : x / 8 ≡ 0 = eqb_eq (x / 8) 0 e in
+        let z : x / 8 ≡ 0 = eqb-true (x / 8) 0 e in
         let w : suc n + length acc - suc (length acc) ≡ n = omega arith in
         ap (λ (m : ℕ). replicate m 48 ++ (digit_glyph false (x % 8) ∷ acc)) w ∙ ap (λ (d : ℕ). replicate n 48 ++ (d ∷ acc)) g
         ∙ sym (last_zero n (x / 8) ((48 + x % 8) ∷ acc) z)
@@ -63,7 +61,7 @@ last_padded (suc k) (suc n) x acc h p l =
         let s : x / 8 < 8 ^ n = omega arith in
         let w : suc n + length acc ≡ n + suc (length acc) = omega arith in
         ap (λ (m : ℕ). replicate (m - length more) 48 ++ more) w
-        ∙ again (positive n (x / 8) (neqb_ne (x / 8) 0 e) s) s
+        ∙ again (positive n (x / 8) (eqb-false (x / 8) 0 e) s) s
         ∙ ap (λ (d : ℕ). last n (x / 8) (d ∷ acc)) g
 
 -- one digit on top

@@ -4,7 +4,7 @@ use Rattle.std.specs.Option.{MatchOption}
 use mathlib.Core.List.{reverse-cons}
 use lib.ListN.{length-reverse}
 use Rattle.std.proofs.lemmas.List.{reverse-reverse, reverse-append, get_or_append_left, get_or_push, take-append-le, take_more}
-use Rattle.std.proofs.lemmas.Bool.{ne_eqb}
+use Rattle.std.proofs.lemmas.Bool.{ne_eqb, eqb-false, eqb-true}
 use Rattle.diagram.specs.declared.edges.Edge.{Edge as EdgeRecord}
 use Rattle.diagram.specs.declared.edges.Diamond.{Diamond as DiamondRecord}
 use Rattle.diagram.specs.declared.edges.Target.TheVariants.{Zero}
@@ -12,8 +12,6 @@ use Rattle.diagram.specs.Rules.{◌⋆◌, arity}
 use Rattle.diagram.specs.Words.{letters_of, word}
 use Rattle.diagram.specs.Edges.{Store, diamond_rule, rule_of, foot}
 use Rattle.diagram.specs.Records.{target_of, edge_of, store_of, same_diamond_record, number_behind, number_of}
-use Rattle.diagram.proofs.Laws.{eqb_eq}
-use Rattle.diagram.proofs.Split.{neqb_ne}
 use Rattle.diagram.proofs.Bridge.{arity_edge}
 use Rattle.diagram.proofs.Recorded.{store_push, store_length}
 
@@ -37,12 +35,12 @@ rule_step_push ds x k d h ih = rw (store_push ds x) (go (eqb k (length (store_of
         cond b (rule_of (store_of ds) (edge_of x.low) ⋆ rule_of (store_of ds) (edge_of x.high)) (diamond_rule (store_of ds) k)
         ≡ rule_of (store_of (take k (ds ++ (x ∷ [])))) (edge_of (get_or (ds ++ (x ∷ [])) k d).low) ⋆ rule_of (store_of (take k (ds ++ (x ∷ [])))) (edge_of (get_or (ds ++ (x ∷ [])) k d).high)
     go true e =
-        let p : k ≡ length ds = eqb_eq k (length (store_of ds)) e ∙ store_length ds in
+        let p : k ≡ length ds = eqb-true k (length (store_of ds)) e ∙ store_length ds in
         let q : get_or (ds ++ (x ∷ [])) k d ≡ x = get_or_push ds x d k (sym p) in
         let r : take k (ds ++ (x ∷ [])) ≡ ds = take-append-le k ds (x ∷ []) (omega arith) ∙ take_all k ds (omega arith) in
         rw (q, r)
     go false e =
-        let n = neqb_ne k (length (store_of ds)) e in
+        let n = eqb-false k (length (store_of ds)) e in
         let l = store_length ds in
         let m : (k ≡ length ds → ⊥) = λ p. n (p ∙ sym l) in
         let i : k < length ds = omega arith in

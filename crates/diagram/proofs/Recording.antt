@@ -5,16 +5,14 @@ use Rattle.std.proofs.lemmas.Bool.{and_parts, and_from}
 use Rattle.diagram.specs.declared.meanings.Meaning.{Meaning}
 use Rattle.diagram.specs.declared.edges.Edge.{Edge as EdgeRecord}
 use Rattle.diagram.specs.declared.edges.Diamond.{Diamond as DiamondRecord}
-use Rattle.diagram.specs.Rules.{Rule, arity, Balanced, value}
+use Rattle.diagram.specs.Rules.{Rule, arity, value}
 use Rattle.diagram.specs.Edges.{Edge, Diamond, Store, rule_of}
-use Rattle.diagram.specs.Dialects.{Lawful}
 use Rattle.diagram.specs.Making.{Made, insert}
-use Rattle.diagram.specs.Acceptance.{Acceptable, acceptable, Normal, normal, shallow, Grown}
+use Rattle.diagram.specs.Acceptance.{Acceptable, acceptable, Normal, normal, Grown}
 use Rattle.diagram.specs.Records.{edge_of, store_of, edge_record, diamond_record, diamonds_of, spelled_edge, spelled_diamonds, accepted_in}
 use Rattle.diagram.specs.RecordTheorems.{NormalIn, rule_in, RecordsTold, AcceptedBack, AnswerAccepted, ReachedCounted}
 use Rattle.diagram.proofs.Decides.{normal_right}
-use Rattle.diagram.proofs.Limits.{acceptable_right, acceptable_told, insert_shallow}
-use Rattle.diagram.proofs.Made.{shallow_read, shallow_met}
+use Rattle.diagram.proofs.Limits.{acceptable_right, acceptable_told}
 use Rattle.diagram.proofs.Recorded.{edge_there, edge_spelled, edge_told, store_there, diamonds_back}
 use Rattle.diagram.proofs.Sound.{accepted_grown, rule_grown, insert_sound}
 use Rattle.diagram.proofs.Told.{edges_told}
@@ -118,11 +116,3 @@ answer_accepted D law ds n f ev i =
       means = rule_there m.0 m.1 ∙ x.rule;
       lasting = accepted_lasts D ds m.0 x.grown;
     }
-
--- inserting a rule of at most 20 marks leaves no diamond of more than 20
-pub answer_shallow : (D : Meaning) → Lawful D → (ds : List DiamondRecord) → NormalIn D ds → shallow (store_of ds) ≡ true → (f : Rule) → Balanced f → arity f ≤ 20 →
-    shallow (store_of (diamonds_of (insert D (store_of ds) f).0)) ≡ true
-answer_shallow D law ds n h f ev i =
-    let s = store_of ds in
-    let m : Made = insert D s f in
-    ap shallow (store_there m.0) ∙ shallow_met m.0 (insert_shallow D law s (normal_of D ds n) (shallow_read s h) f ev i)

@@ -1,5 +1,6 @@
 -- Making and inserting keep a store normal, only add diamonds, and give an accepted edge that means what it should.
 use Rattle.std.proofs.Common.{◌≡◌, ℕ, ◌<◌, Bool, true, false, cond, not, List, [], ◌∷◌, ◌++◌, length, Some, None, Option, sym, refl, ap, ◌∙◌, subst, ap₂, append_assoc, arith}
+use Rattle.std.proofs.lemmas.Bool.{eq-eqb, ne_eqb}
 use Rattle.diagram.specs.Rules.{Rule, constant, ◌⋆◌, arity, negate}
 use Rattle.diagram.specs.Edges.{Edge, Diamond, pair, Store, flip, diamond_rule, rule_of, same_diamond}
 use Rattle.diagram.specs.declared.meanings.Meaning.{Meaning}
@@ -7,9 +8,9 @@ use Rattle.diagram.specs.Dialects.{Lawful}
 use Rattle.diagram.specs.Making.{choose, find, diamond_edge, Made, seat, add, flipped, make_by, make, insert}
 use Rattle.diagram.specs.Acceptance.{Accepted, Addable, Normal, Grown, Sound}
 use Rattle.diagram.specs.Theorems.{InsertSound}
-use Rattle.diagram.proofs.Laws.{negate_negate, arity_negate, sense_flip, sense_flat, eqb_same, same_diamond_eq}
+use Rattle.diagram.proofs.Laws.{negate_negate, arity_negate, sense_flip, sense_flat, same_diamond_eq}
 use Rattle.diagram.proofs.Signs.{flip?, choose_flip}
-use Rattle.diagram.proofs.Split.{eqb_less, rule_more, accepted_more, flat_accepted, accepted_flip}
+use Rattle.diagram.proofs.Split.{rule_more, accepted_more, flat_accepted, accepted_flip}
 use Rattle.diagram.proofs.Fits.{lettered, lettered_rule, lettered_accepted}
 
 -- Growing --
@@ -47,14 +48,14 @@ at_last D m s a =
       less = omega arith;
       low_accepted = accepted_more D m s m.low a.low_accepted;
       high_accepted = accepted_more D m s m.high a.high_accepted;
-      rule = rw (eqb_same (length s)) (ap₂ ◌⋆◌ (sym p) (sym r));
+      rule = rw (eq-eqb (length s) (length s) refl) (ap₂ ◌⋆◌ (sym p) (sym r));
     }
 
 at_before : (D : Meaning) (m n : Diamond) (s : Store) (k : ℕ) → At D s n k → At D (m ∷ s) n k
 at_before D m n s k x =
     let p = rule_more m s n.low x.low_accepted.within in
     let r = rule_more m s n.high x.high_accepted.within in
-    let i = eqb_less k (length s) x.less in
+    let i = ne_eqb k (length s) (omega (arith, x.less)) in
     let j = x.less in
     record {
       less = omega arith;
@@ -64,7 +65,7 @@ at_before D m n s k x =
     }
 
 pub find_at : (D : Meaning) (s : Store) (n : Diamond) (k : ℕ) → Normal D s → find s n ≡ Some k → At D s n k
-find_at D [] n k ns e = let z : ◌≡◌ {A = ℕ} 0 1 = cc in absurd (omega arith)
+find_at D [] n k ns e = absurd cc
 find_at D (m ∷ s) n k ns e = go (same_diamond m n) refl e (λ q. find_at D s n k ns.0 q)
   where
     go : (b : Bool) → same_diamond m n ≡ b → cond b (Some (length s)) (find s n) ≡ Some k → (find s n ≡ Some k → At D s n k) → At D (m ∷ s) n k
@@ -77,7 +78,7 @@ find_at D (m ∷ s) n k ns e = go (same_diamond m n) refl e (λ q. find_at D s n
 
 pub diamond_accepted : (D : Meaning) (s : Store) (k : ℕ) → k < length s → Accepted D s (diamond_edge k)
 diamond_accepted D s k i =
-    record { within = i; signed = λ q. refl; ended = λ q r. let z : ◌≡◌ {A = ℕ} 0 1 = cc in omega arith; spelled = tt }
+    record { within = i; signed = λ q. refl; ended = λ q r. cc; spelled = tt }
 
 module _ (D : Meaning) (s : Store) (l h : Edge) (ns : Normal D s) (la : Accepted D s l) (ha : Accepted D s h) (level : arity (rule_of s l) ≡ arity (rule_of s h)) where
   seat_sound : choose D l h ≡ None → l.negated ≡ false → (o : Option ℕ) → find s (pair l h) ≡ o → Sound D s (rule_of s l ⋆ rule_of s h) (seat o s (pair l h))
@@ -87,7 +88,7 @@ module _ (D : Meaning) (s : Store) (l h : Edge) (ns : Normal D s) (la : Accepted
         normal = (ns, a);
         grown = (pair l h ∷ [], refl);
         accepted = diamond_accepted D (pair l h ∷ s) (length s) (omega arith);
-        rule = rw (eqb_same (length s));
+        rule = rw (eq-eqb (length s) (length s) refl);
       }
   seat_sound un up (Some k) e =
       let x = find_at D s (pair l h) k ns e in
@@ -126,7 +127,7 @@ module _ (D : Meaning) (law : Lawful D) (s : Store) (l h : Edge) (ns : Normal D 
     where
       go : (m : Bool) → D.negates ≡ m → Sound D s (rule_of s l ⋆ rule_of s h) (flipped (add s (flip l) (flip h)))
       go true neg = diamond_sound_negated un neg up
-      go false pos = let q = la.signed pos in let z : ◌≡◌ {A = ℕ} 0 1 = cc in absurd (omega arith)
+      go false pos = let q = la.signed pos in absurd cc
 
   make_sound_at : (o : Option Edge) → choose D l h ≡ o → Sound D s (rule_of s l ⋆ rule_of s h) (make_by o s l h)
   make_sound_at None e = diamond_sound e l.negated refl

@@ -1,6 +1,6 @@
 -- Acceptance, letter by letter and condition by condition, of the program's edges.
 use Rattle.std.proofs.Common.{◌≡◌, ℕ, zero, suc, ◌+◌, ◌≤◌, Bool, true, false, cond, not, ◌&&◌, ltb, leb, List, ◌∷◌, Some, None, Option, option_map, sym, refl, ap, ◌∙◌, ap₂, arith}
-use Rattle.std.proofs.lemmas.Bool.{and_parts, and_from, le-leb, lt-leb, leb-false, ltb-true, ltb-false}
+use Rattle.std.proofs.lemmas.Bool.{and_parts, and_from, le-leb, lt-leb, leb-false, ltb-true, ltb-false, and_right}
 use Rattle.diagram.specs.declared.letters.Letter.{Letter}
 use Rattle.diagram.specs.declared.meanings.Meaning.{Meaning}
 use Rattle.diagram.specs.declared.edges.Word.{Word}
@@ -18,16 +18,13 @@ use Rattle.diagram.proofs.Bridge.{arity_edge}
 use Rattle.diagram.proofs.Placed.{arity_record, length_letters}
 use Rattle.diagram.proofs.Recorded.{letter_test, stands_there}
 
-never : {A : Type 0} → ◌≡◌ {A = ℕ} 0 1 → A
-never z = absurd (omega arith)
-
 -- where nothing can be peeled off a word that spells, there is no letter
 nothing_peeled : (n x : ℕ) → n ≤ 20 → spells n x ≡ true → peeled (word n x) ≡ None → n ≡ 0
 nothing_peeled zero x l h e = refl
 nothing_peeled (suc n) x l h e =
     let p = peel_none (suc n) x (omega arith) e in
     let q = and_from (leb (suc n) 20) (spells (suc n) x) (le-leb (suc n) 20 l) h in
-    never (cc)
+    absurd cc
 
 abbrev on_word : EdgeRecord → Letter × Word → Letter × EdgeRecord
 on_word e p = (p.0, record { negated = false; word = p.1; target = e.target })
@@ -38,7 +35,7 @@ nothing_below e l h = go (peeled e.word) refl
   where
     go : (o : Option (Letter × Word)) → peeled e.word ≡ o → option_map (on_word e) o ≡ None → e.word.length ≡ 0
     go None p q = nothing_peeled e.word.length e.word.digits l h p
-    go (Some w) p q = never cc
+    go (Some w) p q = absurd cc
 
 -- what edge_below gives is unmarked, goes to the same target, and has the letters below the topmost
 pub below_parts : (e : EdgeRecord) (c : Letter) (d : EdgeRecord) → edge_below e ≡ Some (c, d) →
@@ -47,7 +44,7 @@ below_parts e c d = go (peeled e.word) refl
   where
     go : (o : Option (Letter × Word)) → peeled e.word ≡ o → option_map (on_word e) o ≡ Some (c, d) →
         (d.negated ≡ false) × (d.target ≡ e.target) × (letters_of e.word.length e.word.digits ≡ c ∷ letters_of d.word.length d.word.digits) × (spelled_edge e ≡ spelled_edge d)
-    go None p h = never cc
+    go None p h = absurd cc
     go (Some q) p h =
         let i : on_word e q ≡ (c, d) = cc in
         let w = peeled_parts e.word q.0 q.1 p in (
@@ -104,10 +101,6 @@ and_one : (x y : Bool) → y ≡ true → (x && y) ≡ x
 and_one true y h = h
 and_one false y h = refl
 
-pub and_last : (x y : Bool) → y ≡ false → (x && y) ≡ false
-and_last true y h = h
-and_last false y h = refl
-
 -- a letter off the edge: the rest decides where that letter is chosen
 module _ (D : Meaning) (s : Store) (e : EdgeRecord) (c : Letter) (d : EdgeRecord) (f : ℕ)
     (b : edge_below e ≡ Some (c, d)) (h : spelled_edge e ≡ true) (a : arity (foot (diamond_rule s) (target_of e.target)) ≡ f) where
@@ -125,7 +118,7 @@ module _ (D : Meaning) (s : Store) (e : EdgeRecord) (c : Letter) (d : EdgeRecord
   below_chosen t = below_step ∙ and_one (well_spelled D s (target_of d.target) (letters_of d.word.length d.word.digits)) (letter_chosen D (d.word.length + f) c d) t
 
   pub below_unchosen : letter_chosen D (d.word.length + f) c d ≡ false → well_spelled D s (target_of e.target) (letters_of e.word.length e.word.digits) ≡ false
-  below_unchosen t = below_step ∙ and_last (well_spelled D s (target_of d.target) (letters_of d.word.length d.word.digits)) (letter_chosen D (d.word.length + f) c d) t
+  below_unchosen t = below_step ∙ and_right (well_spelled D s (target_of d.target) (letters_of d.word.length d.word.digits)) (letter_chosen D (d.word.length + f) c d) t
 
 module _ (D : Meaning) (ds : List DiamondRecord) (e : EdgeRecord) (f : ℕ) (a : arity (foot (diamond_rule (store_of ds)) (target_of e.target)) ≡ f) where
   abbrev suiting : Bool
@@ -139,16 +132,16 @@ module _ (D : Meaning) (ds : List DiamondRecord) (e : EdgeRecord) (f : ℕ) (a :
 
   pub not_suiting : suiting ≡ false → accepted_in D ds e ≡ false
   not_suiting h =
-      accepted_by D ds e f a ∙ and_last (inside (store_of ds) (target_of e.target)) (suiting && (spelled_edge e && (leb (e.word.length + f) 20 && rest))) (simp h)
+      accepted_by D ds e f a ∙ and_right (inside (store_of ds) (target_of e.target)) (suiting && (spelled_edge e && (leb (e.word.length + f) 20 && rest))) (simp h)
 
   pub not_spelled : (leb e.word.length 20 && spelled_edge e) ≡ false → accepted_in D ds e ≡ false
   not_spelled h =
       accepted_by D ds e f a
-      ∙ and_last (inside (store_of ds) (target_of e.target)) (suiting && (spelled_edge e && (leb (e.word.length + f) 20 && rest)))
-      (and_last suiting (spelled_edge e && (leb (e.word.length + f) 20 && rest)) (go (leb e.word.length 20) refl (spelled_edge e) h))
+      ∙ and_right (inside (store_of ds) (target_of e.target)) (suiting && (spelled_edge e && (leb (e.word.length + f) 20 && rest)))
+      (and_right suiting (spelled_edge e && (leb (e.word.length + f) 20 && rest)) (go (leb e.word.length 20) refl (spelled_edge e) h))
     where
       go : (b : Bool) → leb e.word.length 20 ≡ b → (c : Bool) → (b && c) ≡ false → (c && (leb (e.word.length + f) 20 && rest)) ≡ false
-      go true p true q = never (cc)
+      go true p true q = absurd cc
       go true p false q = refl
       go false p true q =
           let l = leb-false e.word.length 20 p in
@@ -160,8 +153,8 @@ module _ (D : Meaning) (ds : List DiamondRecord) (e : EdgeRecord) (f : ℕ) (a :
   too_long h =
       let m = lt-leb (e.word.length + f) 20 (ltb-true 20 (e.word.length + f) h) in
       accepted_by D ds e f a
-      ∙ and_last (inside (store_of ds) (target_of e.target)) (suiting && (spelled_edge e && (leb (e.word.length + f) 20 && rest)))
-      (and_last suiting (spelled_edge e && (leb (e.word.length + f) 20 && rest)) (and_last (spelled_edge e) (leb (e.word.length + f) 20 && rest) (simp m)))
+      ∙ and_right (inside (store_of ds) (target_of e.target)) (suiting && (spelled_edge e && (leb (e.word.length + f) 20 && rest)))
+      (and_right suiting (spelled_edge e && (leb (e.word.length + f) 20 && rest)) (and_right (spelled_edge e) (leb (e.word.length + f) 20 && rest) (simp m)))
 
   pub all_but_letters : stands_in ds e.target ≡ true → suiting ≡ true → (leb e.word.length 20 && spelled_edge e) ≡ true → ltb 20 (e.word.length + f) ≡ false →
       accepted_in D ds e ≡ rest

@@ -1,5 +1,6 @@
 -- An accepted edge is a terminal edge, or it has two halves: what it means is made of what they mean, they are accepted, and making gives the edge back.
-use Rattle.std.proofs.Common.{◌≡◌, ℕ, zero, suc, ◌<◌, Bool, true, false, cond, not, eqb, ◌≢◌, ◌⊎◌, List, [], ◌∷◌, length, replicate, Some, None, Option, sym, refl, ap, ◌∙◌, subst, ap₂, inl, inr, not-suc-le-zero, arith}
+use Rattle.std.proofs.Common.{◌≡◌, ℕ, zero, suc, ◌<◌, Bool, true, false, cond, not, eqb, ◌⊎◌, List, [], ◌∷◌, length, replicate, Some, None, Option, sym, refl, ap, ◌∙◌, subst, ap₂, inl, inr, not-suc-le-zero, arith}
+use Rattle.std.proofs.lemmas.Bool.{eqb-false, eqb-true, ne_eqb}
 use Rattle.diagram.specs.Rules.{Rule, constant, ◌⋆◌, arity, negate}
 use Rattle.diagram.specs.declared.letters.Letter.{Letter}
 use Rattle.diagram.specs.declared.letters.Letter.TheVariants.{U, X, C00, C01, C10, C11}
@@ -10,21 +11,14 @@ use Rattle.diagram.specs.declared.meanings.Meaning.{Meaning}
 use Rattle.diagram.specs.Making.{flat, source, written, choose, find, diamond_edge, flipped, low_of, high_of, upright, low_upright, high_upright}
 use Rattle.diagram.specs.Acceptance.{Within, Spelled, Accepted, Addable, Normal}
 use Rattle.diagram.proofs.Notions.{Halves}
-use Rattle.diagram.proofs.Laws.{sense_flip, sense_flat, eqb_same, eqb_eq, same_refl, same_diamond_refl, same_diamond_eq}
+use Rattle.diagram.proofs.Laws.{sense_flip, sense_flat, same_refl, same_diamond_refl, same_diamond_eq}
 use Rattle.diagram.proofs.Signs.{make_flip}
 
 -- More diamonds --
 
-pub eqb_less : (k n : ℕ) → k < n → eqb k n ≡ false
-eqb_less k n h = go (eqb k n) refl
-  where
-    go : (b : Bool) → eqb k n ≡ b → eqb k n ≡ false
-    go true e = let q : k ≡ n = eqb_eq k n e in absurd (omega arith)
-    go false e = e
-
 foot_more : (n : Diamond) (s : Store) (t : Target) → Within s t → foot (diamond_rule (n ∷ s)) t ≡ foot (diamond_rule s) t
 foot_more n s (terminal b) w = refl
-foot_more n s (diamond k) w = rw (eqb_less k (length s) w)
+foot_more n s (diamond k) w = rw (ne_eqb k (length s) (omega (arith, w)))
 
 pub rule_more : (n : Diamond) (s : Store) (e : Edge) → Within s e.target → rule_of (n ∷ s) e ≡ rule_of s e
 rule_more n s e w = ap (λ f. sign e.negated (spell e.word f)) (foot_more n s e.target w)
@@ -73,14 +67,14 @@ flat_accepted_at D s n b true e =
     record {
       within = tt;
       signed = λ q. cc;
-      ended = λ q r. let z : ◌≡◌ {A = ℕ} 0 1 = cc in omega arith;
+      ended = λ q r. cc;
       spelled = us_spelled D s (terminal false) n;
     }
 flat_accepted_at D s n b false e =
     record {
       within = tt;
       signed = λ q. refl;
-      ended = λ q r. let z : ◌≡◌ {A = ℕ} 0 1 = cc in omega arith;
+      ended = λ q r. cc;
       spelled = us_spelled D s (terminal b) n;
     }
 
@@ -112,14 +106,14 @@ found_here D n s k a e =
       level = ap arity p ∙ a.level ∙ sym (ap arity q);
       unlettered = a.unlettered;
       upright_low = a.upright_low;
-      found = rw (same_diamond_refl n) (ap Some (sym (eqb_eq k (length s) e)));
+      found = rw (same_diamond_refl n) (ap Some (sym (eqb-true k (length s) e)));
     }
 
 differ : (D : Meaning) (n m : Diamond) (s : Store) (k : ℕ) → find s n ≡ None → find s m ≡ Some k → same_diamond n m ≡ false
 differ D n m s k p q = go (same_diamond n m) refl
   where
     go : (b : Bool) → same_diamond n m ≡ b → same_diamond n m ≡ false
-    go true e = let r : n ≡ m = same_diamond_eq n m e in let z : ◌≡◌ {A = ℕ} 0 1 = cc in absurd (omega arith)
+    go true e = let r : n ≡ m = same_diamond_eq n m e in absurd cc
     go false e = e
 
 found_before : (D : Meaning) (n m : Diamond) (s : Store) (k : ℕ) → Addable D s n → eqb k (length s) ≡ false → Found D s k m → Found D (n ∷ s) k m
@@ -136,16 +130,13 @@ found_before D n m s k a e f =
       found = rw (differ D n m s k a.new f.found) f.found;
     }
 
-pub neqb_ne : (k n : ℕ) → eqb k n ≡ false → k ≢ n
-neqb_ne k n e q = let r : eqb n n ≡ false = subst (λ m. eqb m n ≡ false) q e in let t = eqb_same n in let z : ◌≡◌ {A = ℕ} 0 1 = cc in omega arith
-
 pub found : (D : Meaning) (s : Store) (k : ℕ) → Normal D s → k < length s → Found D s k (diamond_at s k)
 found D [] k ns h = absurd (not-suc-le-zero h)
 found D (n ∷ s) k ns h = go (eqb k (length s)) refl (λ i. found D s k ns.0 i)
   where
     go : (b : Bool) → eqb k (length s) ≡ b → (k < length s → Found D s k (diamond_at s k)) → Found D (n ∷ s) k (cond b n (diamond_at s k))
     go true e ih = found_here D n s k ns.1 e
-    go false e ih = let d = neqb_ne k (length s) e in found_before D n (diamond_at s k) s k ns.1 e (ih (omega arith))
+    go false e ih = let d = eqb-false k (length s) e in found_before D n (diamond_at s k) s k ns.1 e (ih (omega arith))
 
 -- Splitting --
 
@@ -256,7 +247,7 @@ split_at D law s ns true w t a = go D.negates refl
   where
     go : (m : Bool) → D.negates ≡ m → Leaf D s (edge true w t) ⊎ Halves D s (edge true w t)
     go true neg = split_flip D law neg s w t (split_upright D law s ns w t (accepted_flip D s (edge true w t) neg a))
-    go false pos = let q : ◌≡◌ {A = Bool} true false = a.signed pos in let z : ◌≡◌ {A = ℕ} 0 1 = cc in absurd (omega arith)
+    go false pos = let q = a.signed pos in absurd cc
 
 pub split : (D : Meaning) → Lawful D → (s : Store) → Normal D s → (e : Edge) → Accepted D s e → Leaf D s e ⊎ Halves D s e
 split D law s ns e a = split_at D law s ns e.negated e.word e.target a

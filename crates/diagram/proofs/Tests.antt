@@ -1,5 +1,6 @@
 -- The test of a dialect, read and met.
-use Rattle.std.proofs.Common.{◌≡◌, ℕ, Bool, true, false, cond, not, ◌&&◌, ◌↔◌, List, [], ◌∷◌, slice_index_or, Some, None, Option, sym, refl, ap, subst, arith}
+use Rattle.std.proofs.Common.{◌≡◌, Bool, true, false, cond, not, ◌&&◌, ◌↔◌, List, [], ◌∷◌, slice_index_or, Some, None, Option, sym, refl, ap, subst, arith}
+use Rattle.std.proofs.lemmas.Bool.{and_from, and_parts, eq-eqb}
 use Rattle.diagram.specs.declared.letters.Letter.{Letter}
 use Rattle.diagram.specs.declared.letters.Letter.TheVariants.{U, X, C00, C01, C10, C11}
 use Rattle.diagram.specs.Letters.{letter_code}
@@ -9,26 +10,26 @@ use Rattle.diagram.specs.Dialects.{fits, turn, Lawful, partners, every_look, eve
 use Rattle.diagram.specs.declared.meanings.Meaning.{Meaning}
 use Rattle.diagram.specs.Theorems.{LawfulTested}
 use Rattle.std.specs.List.{AllPass}
-use Rattle.diagram.proofs.Laws.{and_left, and_right, both, eqb_same, letter_eq}
+use Rattle.diagram.proofs.Laws.{letter_eq}
 use Rattle.diagram.proofs.Recorded.{alike}
 
 look_read : (p : Look → Bool) → every_look p ≡ true → (k : Look) → p k ≡ true
-look_read p e ZeroOne = and_left (p ZeroOne) _ e
-look_read p e OneZero = and_left (p OneZero) _ (and_right (p ZeroOne) _ e)
-look_read p e ZeroOther = and_left (p ZeroOther) _ (and_right (p OneZero) _ (and_right (p ZeroOne) _ e))
-look_read p e OneOther = and_left (p OneOther) _ (and_right (p ZeroOther) _ (and_right (p OneZero) _ (and_right (p ZeroOne) _ e)))
-look_read p e OtherZero = and_left (p OtherZero) _ (and_right (p OneOther) _ (and_right (p ZeroOther) _ (and_right (p OneZero) _ (and_right (p ZeroOne) _ e))))
-look_read p e OtherOne = and_left (p OtherOne) _ (and_right (p OtherZero) _ (and_right (p OneOther) _ (and_right (p ZeroOther) _ (and_right (p OneZero) _ (and_right (p ZeroOne) _ e)))))
-look_read p e Opposite = and_left (p Opposite) _ (and_right (p OtherOne) _ (and_right (p OtherZero) _ (and_right (p OneOther) _ (and_right (p ZeroOther) _ (and_right (p OneZero) _ (and_right (p ZeroOne) _ e))))))
-look_read p e Plain = and_right (p Opposite) _ (and_right (p OtherOne) _ (and_right (p OtherZero) _ (and_right (p OneOther) _ (and_right (p ZeroOther) _ (and_right (p OneZero) _ (and_right (p ZeroOne) _ e))))))
+look_read p e ZeroOne = (and_parts (p ZeroOne) _ e).0
+look_read p e OneZero = (and_parts (p OneZero) _ (and_parts (p ZeroOne) _ e).1).0
+look_read p e ZeroOther = (and_parts (p ZeroOther) _ (and_parts (p OneZero) _ (and_parts (p ZeroOne) _ e).1).1).0
+look_read p e OneOther = (and_parts (p OneOther) _ (and_parts (p ZeroOther) _ (and_parts (p OneZero) _ (and_parts (p ZeroOne) _ e).1).1).1).0
+look_read p e OtherZero = (and_parts (p OtherZero) _ (and_parts (p OneOther) _ (and_parts (p ZeroOther) _ (and_parts (p OneZero) _ (and_parts (p ZeroOne) _ e).1).1).1).1).0
+look_read p e OtherOne = (and_parts (p OtherOne) _ (and_parts (p OtherZero) _ (and_parts (p OneOther) _ (and_parts (p ZeroOther) _ (and_parts (p OneZero) _ (and_parts (p ZeroOne) _ e).1).1).1).1).1).0
+look_read p e Opposite = (and_parts (p Opposite) _ (and_parts (p OtherOne) _ (and_parts (p OtherZero) _ (and_parts (p OneOther) _ (and_parts (p ZeroOther) _ (and_parts (p OneZero) _ (and_parts (p ZeroOne) _ e).1).1).1).1).1).1).0
+look_read p e Plain = (and_parts (p Opposite) _ (and_parts (p OtherOne) _ (and_parts (p OtherZero) _ (and_parts (p OneOther) _ (and_parts (p ZeroOther) _ (and_parts (p OneZero) _ (and_parts (p ZeroOne) _ e).1).1).1).1).1).1).1
 
 letter_read : (p : Letter → Bool) → every_letter p ≡ true → (c : Letter) → p c ≡ true
-letter_read p e U = and_left (p U) _ e
-letter_read p e X = and_left (p X) _ (and_right (p U) _ e)
-letter_read p e C00 = and_left (p C00) _ (and_right (p X) _ (and_right (p U) _ e))
-letter_read p e C01 = and_left (p C01) _ (and_right (p C00) _ (and_right (p X) _ (and_right (p U) _ e)))
-letter_read p e C10 = and_left (p C10) _ (and_right (p C01) _ (and_right (p C00) _ (and_right (p X) _ (and_right (p U) _ e))))
-letter_read p e C11 = and_right (p C10) _ (and_right (p C01) _ (and_right (p C00) _ (and_right (p X) _ (and_right (p U) _ e))))
+letter_read p e U = (and_parts (p U) _ e).0
+letter_read p e X = (and_parts (p X) _ (and_parts (p U) _ e).1).0
+letter_read p e C00 = (and_parts (p C00) _ (and_parts (p X) _ (and_parts (p U) _ e).1).1).0
+letter_read p e C01 = (and_parts (p C01) _ (and_parts (p C00) _ (and_parts (p X) _ (and_parts (p U) _ e).1).1).1).0
+letter_read p e C10 = (and_parts (p C10) _ (and_parts (p C01) _ (and_parts (p C00) _ (and_parts (p X) _ (and_parts (p U) _ e).1).1).1).1).0
+letter_read p e C11 = (and_parts (p C10) _ (and_parts (p C01) _ (and_parts (p C00) _ (and_parts (p X) _ (and_parts (p U) _ e).1).1).1).1).1
 
 same_answer_eq : (o q : Option Letter) → same_answer o q ≡ true → o ≡ q
 same_answer_eq None None e = refl
@@ -37,11 +38,11 @@ same_answer_eq (Some c) None e = cc
 same_answer_eq (Some c) (Some d) e = ap Some (letter_eq c d e)
 
 own_read : (D : Meaning) (k : Look) (o : Option Letter) (c : Letter) → o ≡ Some c → right_answer D k o ≡ true → (has_letter D c ≡ true) × (fits D c k ≡ true)
-own_read D k None c e r = let z : ◌≡◌ {A = ℕ} 0 1 = cc in absurd (omega arith)
+own_read D k None c e r = absurd cc
 own_read D k (Some d) c e r =
     let q : d ≡ c = cc in
     let t = rw q at r in
-    (and_left (has_letter D c) (fits D c k) t, and_right (has_letter D c) (fits D c k) t)
+    ((and_parts (has_letter D c) (fits D c k) t).0, (and_parts (has_letter D c) (fits D c k) t).1)
 
 not_both : (a b : Bool) → not (a && b) ≡ true → a ≡ true → b ≡ false
 not_both true true e h = sym e
@@ -59,11 +60,11 @@ cond_read false b e h = cc
 
 look_met : (p : Look → Bool) → ((k : Look) → p k ≡ true) → every_look p ≡ true
 look_met p h =
-    both (p ZeroOne) _ (h ZeroOne) (both (p OneZero) _ (h OneZero) (both (p ZeroOther) _ (h ZeroOther) (both (p OneOther) _ (h OneOther)
-    (both (p OtherZero) _ (h OtherZero) (both (p OtherOne) _ (h OtherOne) (both (p Opposite) _ (h Opposite) (h Plain)))))))
+    and_from (p ZeroOne) _ (h ZeroOne) (and_from (p OneZero) _ (h OneZero) (and_from (p ZeroOther) _ (h ZeroOther) (and_from (p OneOther) _ (h OneOther)
+    (and_from (p OtherZero) _ (h OtherZero) (and_from (p OtherOne) _ (h OtherOne) (and_from (p Opposite) _ (h Opposite) (h Plain)))))))
 
 letter_met : (p : Letter → Bool) → ((c : Letter) → p c ≡ true) → every_letter p ≡ true
-letter_met p h = both (p U) _ (h U) (both (p X) _ (h X) (both (p C00) _ (h C00) (both (p C01) _ (h C01) (both (p C10) _ (h C10) (h C11)))))
+letter_met p h = and_from (p U) _ (h U) (and_from (p X) _ (h X) (and_from (p C00) _ (h C00) (and_from (p C01) _ (h C01) (and_from (p C10) _ (h C10) (h C11)))))
 
 -- a test of the list of all looks is one of every look
 pub looks_tested : (p : Look → Bool) (b : Bool) (ks : List Look) → ks ≡ ZeroOne ∷ OneZero ∷ ZeroOther ∷ OneOther ∷ OtherZero ∷ OtherOne ∷ Opposite ∷ Plain ∷ [] →
@@ -94,7 +95,7 @@ letters_tested p b cs q h = alike b (every_letter p) (λ e. letter_met p (met (s
 
 same_answer_refl : (o : Option Letter) → same_answer o o ≡ true
 same_answer_refl None = refl
-same_answer_refl (Some c) = eqb_same (letter_code c)
+same_answer_refl (Some c) = eq-eqb (letter_code c) (letter_code c) refl
 
 cond_met : (a b : Bool) → (a ≡ true → b ≡ true) → cond a b true ≡ true
 cond_met true b h = h refl
@@ -104,8 +105,8 @@ cond_met false b h = refl
 none_read : (D : Meaning) (k : Look) (o : Option Letter) → right_answer D k o ≡ true → ((c : Letter) → has_letter D c ≡ true → fits D c k ≡ false) → o ≡ None
 none_read D k None r h = refl
 none_read D k (Some c) r h =
-    let p = h c (and_left (has_letter D c) (fits D c k) r) in
-    let q = and_right (has_letter D c) (fits D c k) r in
+    let p = h c (and_parts (has_letter D c) (fits D c k) r).0 in
+    let q = (and_parts (has_letter D c) (fits D c k) r).1 in
     cc
 
 one_not : (a b : Bool) → (a ≡ true → b ≡ false) → not (a && b) ≡ true
@@ -114,27 +115,27 @@ one_not false b h = refl
 
 answer_met : (D : Meaning) → Lawful D → (k : Look) (o : Option Letter) → answer_at D k ≡ o → right_answer D k o ≡ true
 answer_met D law k None e = letter_met (λ c. not (has_letter D c && fits D c k)) (λ c. one_not (has_letter D c) (fits D c k) ((law.silent k).0 e c))
-answer_met D law k (Some c) e = let w = law.own k c e in both (has_letter D c) (fits D c k) w.0 w.1
+answer_met D law k (Some c) e = let w = law.own k c e in and_from (has_letter D c) (fits D c k) w.0 w.1
 
 read : (D : Meaning) → lawful D ≡ true → Lawful D
 read D e =
-    let x = and_right (has_letter D U) _ e in
-    let r : (k : Look) → right_look D k ≡ true = look_read (right_look D) (and_right (cond (has_letter D X) D.negates true) _ x) in
-    let w : (k : Look) → right_answer D k (answer_at D k) ≡ true = λ k. and_left (right_answer D k (answer_at D k)) _ (r k) in
+    let x = (and_parts (has_letter D U) _ e).1 in
+    let r : (k : Look) → right_look D k ≡ true = look_read (right_look D) (and_parts (cond (has_letter D X) D.negates true) _ x).1 in
+    let w : (k : Look) → right_answer D k (answer_at D k) ≡ true = λ k. (and_parts (right_answer D k (answer_at D k)) _ (r k)).0 in
     record {
-      has_u = and_left (has_letter D U) _ e;
-      has_x = cond_read (has_letter D X) D.negates (and_left (cond (has_letter D X) D.negates true) _ x);
+      has_u = (and_parts (has_letter D U) _ e).0;
+      has_x = cond_read (has_letter D X) D.negates (and_parts (cond (has_letter D X) D.negates true) _ x).0;
       own = λ k c a. own_read D k (answer_at D k) c a (w k);
       silent = λ k. (λ a. silent_read D k (answer_at D k) a (w k), none_read D k (answer_at D k) (w k));
-      turns = λ neg k. same_answer_eq (answer_at D (turn k)) (partners (answer_at D k)) (cond_read D.negates (same_answer (answer_at D (turn k)) (partners (answer_at D k))) (and_right (right_answer D k (answer_at D k)) _ (r k)) neg);
+      turns = λ neg k. same_answer_eq (answer_at D (turn k)) (partners (answer_at D k)) (cond_read D.negates (same_answer (answer_at D (turn k)) (partners (answer_at D k))) (and_parts (right_answer D k (answer_at D k)) _ (r k)).1 neg);
     }
 
 met : (D : Meaning) → Lawful D → lawful D ≡ true
 met D law =
-    both (has_letter D U) _ law.has_u
-    (both (cond (has_letter D X) D.negates true) _ (cond_met (has_letter D X) D.negates law.has_x)
+    and_from (has_letter D U) _ law.has_u
+    (and_from (cond (has_letter D X) D.negates true) _ (cond_met (has_letter D X) D.negates law.has_x)
     (look_met (right_look D) (λ k.
-    both (right_answer D k (answer_at D k)) _ (answer_met D law k (answer_at D k) refl)
+    and_from (right_answer D k (answer_at D k)) _ (answer_met D law k (answer_at D k) refl)
     (cond_met D.negates (same_answer (answer_at D (turn k)) (partners (answer_at D k))) (λ neg.
     subst (λ (o : Option Letter). same_answer (answer_at D (turn k)) o ≡ true) (law.turns neg k) (same_answer_refl (answer_at D (turn k))))))))
 

@@ -1,5 +1,6 @@
 -- Walking from an accepted edge of a normal store and renumbering gives what inserting the edge's rule into the empty store gives.
 use Rattle.std.proofs.Common.{◌≡◌, ℕ, suc, ◌<◌, ◌≤◌, Bool, true, false, cond, ◌&&◌, eqb, ◌⊎◌, List, [], ◌∷◌, length, replicate, Some, None, Option, sym, refl, ap, ◌∙◌, subst, ap₂, inl, inr, not-suc-le-zero, arith}
+use Rattle.std.proofs.lemmas.Bool.{eq-eqb, eqb-false, eqb-true}
 use mathlib.Core.Bool.{beq}
 use Rattle.diagram.specs.Rules.{Rule, constant, ◌⋆◌, arity}
 use Rattle.diagram.specs.declared.letters.Letter.{Letter}
@@ -13,13 +14,10 @@ use Rattle.diagram.proofs.Notions.{Halves, Lower, place, retarget, moved, copied
 use Rattle.diagram.specs.Walks.{met, visit, reached}
 use Rattle.diagram.specs.Theorems.{WalkCounts}
 use lib.ListN.{length-reverse}
-use Rattle.diagram.proofs.Laws.{eqb_same, eqb_eq, same_diamond_eq, same_diamond_refl}
+use Rattle.diagram.proofs.Laws.{same_diamond_eq, same_diamond_refl}
 use Rattle.diagram.proofs.Signs.{make_flip}
 use Rattle.diagram.proofs.Down.{Down, lower_at, normal_lower, visit_terminal, visit_next, visit_step}
-use Rattle.diagram.proofs.Split.{neqb_ne, Found, found, Leaf, split, accepted_flip}
-
-never : {A : Type 0} → ◌≡◌ {A = ℕ} 0 1 → A
-never z = absurd (omega arith)
+use Rattle.diagram.proofs.Split.{Found, found, Leaf, split, accepted_flip}
 
 -- Visits --
 
@@ -38,7 +36,7 @@ visit_old (n ∷ s) (terminal b) seen k i = refl
 visit_old (n ∷ s) (diamond j) seen k i = go (eqb j (length s)) refl (met seen j) (λ t q. visit_old s t q k (omega arith))
   where
     other : j ≡ length s → (b : Bool) → eqb k j ≡ b → eqb k j ≡ false
-    other q true p = let r = eqb_eq k j p in absurd (omega arith)
+    other q true p = let r = eqb-true k j p in absurd (omega arith)
     other q false p = p
 
     go : (b : Bool) → eqb j (length s) ≡ b → (c : Bool) → ((t : Target) (q : List ℕ) → met (visit s t q) k ≡ met q k) →
@@ -46,7 +44,7 @@ visit_old (n ∷ s) (diamond j) seen k i = go (eqb j (length s)) refl (met seen 
     go false e c ih = ih (diamond j) seen
     go true e true ih = refl
     go true e false ih =
-        rw (other (eqb_eq j (length s) e) (eqb k j) refl) (ih n.high.target (visit s n.low.target seen) ∙ ih n.low.target seen)
+        rw (other (eqb-true j (length s) e) (eqb k j) refl) (ih n.high.target (visit s n.low.target seen) ∙ ih n.low.target seen)
 
 -- nor does a visit of what is below a diamond add the diamond
 under_old : (s : Store) → Lower s → (k : ℕ) → k < length s → (seen : List ℕ) → met (under s (diamond_at s k) seen) k ≡ met seen k
@@ -55,12 +53,12 @@ under_old (n ∷ s) l k i seen = go (eqb k (length s)) refl (λ j. under_old s l
   where
     go : (b : Bool) → eqb k (length s) ≡ b → (k < length s → met (under s (diamond_at s k) seen) k ≡ met seen k) → met (under (n ∷ s) (cond b n (diamond_at s k)) seen) k ≡ met seen k
     go true e ih =
-        let q = eqb_eq k (length s) e in
+        let q = eqb-true k (length s) e in
         ap (λ (r : List ℕ). met r k) (under_next n s n seen l.1)
         ∙ visit_old s n.high.target (visit s n.low.target seen) k (omega arith)
         ∙ visit_old s n.low.target seen k (omega arith)
     go false e ih =
-        let d = neqb_ne k (length s) e in
+        let d = eqb-false k (length s) e in
         let j : k < length s = omega arith in
         ap (λ (r : List ℕ). met r k) (under_next n s (diamond_at s k) seen (lower_at s l.0 k j)) ∙ ih j
 
@@ -84,7 +82,7 @@ pub before_next : (r : List ℕ) (j : ℕ) → met r j ≡ false → Before r (j
 before_next r j u k e = go (eqb k j) refl
   where
     go : (b : Bool) → eqb k j ≡ b → (met (j ∷ r) k ≡ true) × (place (j ∷ r) k ≡ place r k)
-    go true p = let q = ap (met r) (eqb_eq k j p) in never (cc)
+    go true p = let q = ap (met r) (eqb-true k j p) in absurd cc
     go false p = (rw p e, rw p)
 
 reached_before : (r q : List ℕ) (t : Target) → Before r q → Reached r t → Reached q t
@@ -101,7 +99,7 @@ moved_before r q e f h = ap (λ (t : Target). edge e.negated e.word t) (retarget
 -- Places --
 
 place_less : (r : List ℕ) (k : ℕ) → met r k ≡ true → place r k < length r
-place_less [] k e = never (cc)
+place_less [] k e = absurd cc
 place_less (j ∷ r) k e = go (eqb k j) refl e (place_less r k)
   where
     go : (b : Bool) → eqb k j ≡ b → cond b true (met r k) ≡ true → (met r k ≡ true → place r k < length r) → cond b (length r) (place r k) < length (j ∷ r)
@@ -109,12 +107,12 @@ place_less (j ∷ r) k e = go (eqb k j) refl e (place_less r k)
     go false p h ih = let i = ih h in omega arith
 
 pub place_tells : (r : List ℕ) (j k : ℕ) → met r j ≡ true → met r k ≡ true → place r j ≡ place r k → j ≡ k
-place_tells [] j k e f p = never (cc)
+place_tells [] j k e f p = absurd cc
 place_tells (i ∷ r) j k e f p = go (eqb j i) refl (eqb k i) refl e f p (place_tells r j k)
   where
     go : (b : Bool) → eqb j i ≡ b → (c : Bool) → eqb k i ≡ c → cond b true (met r j) ≡ true → cond c true (met r k) ≡ true → cond b (length r) (place r j) ≡ cond c (length r) (place r k) →
         (met r j ≡ true → met r k ≡ true → place r j ≡ place r k → j ≡ k) → j ≡ k
-    go true a true b e f p ih = eqb_eq j i a ∙ sym (eqb_eq k i b)
+    go true a true b e f p ih = eqb-true j i a ∙ sym (eqb-true k i b)
     go true a false b e f p ih = let q = place_less r k f in absurd (omega arith)
     go false a true b e f p ih = let q = place_less r j e in absurd (omega arith)
     go false a false b e f p ih = ih e f p
@@ -130,8 +128,8 @@ module _ (r : List ℕ) where
     where
       go : (b : Bool) → eqb j k ≡ b → (c : Bool) → eqb (place r j) (place r k) ≡ c → c ≡ b
       go true e true f = refl
-      go true e false f = absurd (neqb_ne (place r j) (place r k) f (ap (place r) (eqb_eq j k e)))
-      go false e true f = absurd (neqb_ne j k e (place_tells r j k p q (eqb_eq (place r j) (place r k) f)))
+      go true e false f = absurd (eqb-false (place r j) (place r k) f (ap (place r) (eqb-true j k e)))
+      go false e true f = absurd (eqb-false j k e (place_tells r j k p q (eqb-true (place r j) (place r k) f)))
       go false e false f = refl
 
   pub same_moved : (a b : Edge) → Reached r a.target → Reached r b.target → same (moved r a) (moved r b) ≡ same a b
@@ -190,7 +188,7 @@ Closed s (j ∷ r) = Closed s r × Fresh s r j
 
 module _ (s : Store) where
   closed_reached : (r : List ℕ) → Closed s r → (k : ℕ) → met r k ≡ true → Reached r (diamond_at s k).low.target × Reached r (diamond_at s k).high.target
-  closed_reached [] c k e = never (cc)
+  closed_reached [] c k e = absurd cc
   closed_reached (j ∷ r) c k e = go (eqb k j) refl e (closed_reached r c.0 k)
     where
       up : (t : Target) → Reached r t → Reached (j ∷ r) t
@@ -199,7 +197,7 @@ module _ (s : Store) where
       go : (b : Bool) → eqb k j ≡ b → cond b true (met r k) ≡ true → (met r k ≡ true → Reached r (diamond_at s k).low.target × Reached r (diamond_at s k).high.target) →
           Reached (j ∷ r) (diamond_at s k).low.target × Reached (j ∷ r) (diamond_at s k).high.target
       go true p h ih =
-          subst (λ (i : ℕ). Reached (j ∷ r) (diamond_at s i).low.target × Reached (j ∷ r) (diamond_at s i).high.target) (sym (eqb_eq k j p))
+          subst (λ (i : ℕ). Reached (j ∷ r) (diamond_at s i).low.target × Reached (j ∷ r) (diamond_at s i).high.target) (sym (eqb-true k j p))
           (up (diamond_at s j).low.target c.1.low_reached, up (diamond_at s j).high.target c.1.high_reached)
       go false p h ih = let x = ih h in (up (diamond_at s k).low.target x.0, up (diamond_at s k).high.target x.1)
 
@@ -230,9 +228,9 @@ module _ (D : Meaning) (law : Lawful D) (s : Store) (ns : Normal D s) where
       go true e true f = refl
       go true e false f =
           let p : Some j ≡ Some k = sym y.found ∙ ap (find s) (same_diamond_eq (diamond_at s j) (diamond_at s k) e) ∙ x.found in
-          absurd (neqb_ne k j f (cc))
+          absurd (eqb-false k j f (cc))
       go false e true f =
-          let p : same_diamond (diamond_at s j) (diamond_at s k) ≡ true = ap (λ (i : ℕ). same_diamond (diamond_at s j) (diamond_at s i)) (eqb_eq k j f) ∙ same_diamond_refl (diamond_at s j) in
+          let p : same_diamond (diamond_at s j) (diamond_at s k) ≡ true = ap (λ (i : ℕ). same_diamond (diamond_at s j) (diamond_at s i)) (eqb-true k j f) ∙ same_diamond_refl (diamond_at s j) in
           cc
       go false e false f = refl
 
@@ -288,8 +286,8 @@ module _ (D : Meaning) (law : Lawful D) (s : Store) (ns : Normal D s) where
         record {
           closed = (c, record { unmet = e; less = i; low_reached = lo; high_reached = hi });
           before = before_next q k e;
-          reached = rw (eqb_same k);
-          made = diamond_made false e ∙ rw (eqb_same k, length_copied s q);
+          reached = rw (eq-eqb k k refl);
+          made = diamond_made false e ∙ rw (eq-eqb k k refl, length_copied s q);
         }
 
   -- a target that is no diamond
@@ -395,7 +393,7 @@ module _ (D : Meaning) (law : Lawful D) (s : Store) (ns : Normal D s) where
   done seen true w t sp a c x = go D.negates refl
     where
       go : (m : Bool) → D.negates ≡ m → Done (r₂ seen (low_half D s (edge true w t)) (high_half D s (edge true w t))) (visit s t seen) (low_half D s (edge true w t)) (high_half D s (edge true w t)) (edge true w t)
-      go false pos = let q : ◌≡◌ {A = Bool} true false = a.signed pos in never (cc)
+      go false pos = let q = a.signed pos in absurd cc
       go true neg =
           let l = low_upright D s w t in
           let h = high_upright D s w t in
@@ -411,7 +409,7 @@ module _ (D : Meaning) (law : Lawful D) (s : Store) (ns : Normal D s) where
     pub inserted : insert D (copied s seen) f ≡ (copied s (visit s e.target seen), moved (visit s e.target seen) e)
 
   walked_leaf : (seen : List ℕ) (b : Bool) (e : Edge) → Closed s seen → rule_of s e ≡ constant b → Leaf D s e ⊎ Halves D s e → Walked seen (constant b) e
-  walked_leaf seen b e c p (inr x) = never (cc x.rule)
+  walked_leaf seen b e c p (inr x) = absurd (cc x.rule)
   walked_leaf seen b e c p (inl x) =
       let q : b ≡ x.bit = cc x.rule in
       let is : e ≡ flat D 0 b = x.is ∙ ap (flat D 0) (sym q) in
@@ -429,8 +427,8 @@ module _ (D : Meaning) (law : Lawful D) (s : Store) (ns : Normal D s) where
           }
 
   splits : (n : Bool) (w : List Letter) (t : Target) (f g : Rule) → rule_of s (edge n w t) ≡ f ⋆ g → Splits w t
-  splits true [] (terminal b) f g p = never (cc)
-  splits false [] (terminal b) f g p = never (cc)
+  splits true [] (terminal b) f g p = absurd cc
+  splits false [] (terminal b) f g p = absurd cc
   splits n [] (diamond k) f g p = tt
   splits n (c ∷ w) t f g p = tt
 
@@ -438,7 +436,7 @@ module _ (D : Meaning) (law : Lawful D) (s : Store) (ns : Normal D s) where
       ((d : Edge) → Accepted D s d → rule_of s d ≡ f → (q : List ℕ) → Closed s q → Walked q f d) →
       ((d : Edge) → Accepted D s d → rule_of s d ≡ g → (q : List ℕ) → Closed s q → Walked q g d) →
       Leaf D s e ⊎ Halves D s e → Walked seen (f ⋆ g) e
-  walked_join seen f g e c a p ihf ihg (inl x) = never (cc x.rule)
+  walked_join seen f g e c a p ihf ihg (inl x) = absurd (cc x.rule)
   walked_join seen f g e c a p ihf ihg (inr x) =
       let l = low_half D s e in
       let h = high_half D s e in

@@ -77,7 +77,7 @@ abbrev pub first_value : List ℕ → Option ℕ
 first_value [] = None
 first_value (v ∷ vs) = Some v
 
--- the test by which the program compares refusals: the same number, and the same first value or none
+-- the test of equal refusals: the same number, and the same first value or none
 abbrev pub same_refusal : Refusal → Refusal → Bool
 same_refusal = eq_of_both (on refusal_number nat_eq) (on (λ x. first_value (refusal_values x)) (option_eq nat_eq))
 

@@ -10,7 +10,7 @@ use crate::edges::{Diamond, Edge, Target, Word};
 use crate::letters::Letter;
 use crate::meanings::Meaning;
 
-// The arity of a target among some diamonds; the edges of a diamond go to diamonds before it.
+// The arity of a target among some diamonds; the edges of a diamond go to diamonds before it, so the slice is cut at its number.
 fn target_arity(diamonds: &[Diamond], target: Target) -> u32
     ensures value { result ≡ target_arity diamonds.now target }
     ensures bound { result ≤ 256 * length diamonds.now }
@@ -59,17 +59,17 @@ impl Meaning {
             length: arity,
             digits: 0,
         };
-        match (self.negates, value) {
-            (true, _) => Edge {
+        if self.negates {
+            return Edge {
                 negated: value,
                 word,
                 target: Target::Zero,
-            },
-            (false, _) => Edge {
-                negated: false,
-                word,
-                target: if value { Target::One } else { Target::Zero },
-            },
+            };
+        }
+        Edge {
+            negated: false,
+            word,
+            target: if value { Target::One } else { Target::Zero },
         }
     }
 

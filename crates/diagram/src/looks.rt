@@ -8,7 +8,7 @@ use crate::letters::{Letter, Look};
 use crate::meanings::Meaning;
 
 impl Edge {
-    // Whether the two edges have the same mark, length, word and target.
+    // Whether the two edges have the same mark, length, word and target: `==`, promised to be the test in specs/.
     pub fn same(self, other: Edge) -> bool
         ensures { result ≡ same_record self other }
     {
@@ -25,7 +25,7 @@ impl Edge {
         }
     }
 
-    // The value that the edge is seen to have everywhere, if any: its letters are all u, so that its word is 0, and its target is a terminal.
+    // The value that the edge is seen to have everywhere, if any: there is one where its letters are all u, so that its word is 0, and its target is a terminal.
     pub fn constant_value(self) -> Option<bool>
         ensures { result ≡ constant_of self }
     {
@@ -59,16 +59,17 @@ impl Meaning {
     pub fn letter_for(&self, low: Edge, high: Edge) -> Option<Letter>
         ensures { result ≡ letter_for self.now low high }
     {
-        match (low.constant_value(), high.constant_value()) {
-            _ if low.same(high) => Some(Letter::U),
-            (Some(false), Some(true)) => self.answer(Look::ZeroOne),
-            (Some(true), Some(false)) => self.answer(Look::OneZero),
-            (Some(false), None) => self.answer(Look::ZeroOther),
-            (Some(true), None) => self.answer(Look::OneOther),
-            (None, Some(false)) => self.answer(Look::OtherZero),
-            (None, Some(true)) => self.answer(Look::OtherOne),
-            (None, None) if self.negates && low.same(high.flip()) => self.answer(Look::Opposite),
-            _ => self.answer(Look::Plain),
-        }
+        let look = match (low.constant_value(), high.constant_value()) {
+            _ if low.same(high) => return Some(Letter::U),
+            (Some(false), Some(true)) => Look::ZeroOne,
+            (Some(true), Some(false)) => Look::OneZero,
+            (Some(false), None) => Look::ZeroOther,
+            (Some(true), None) => Look::OneOther,
+            (None, Some(false)) => Look::OtherZero,
+            (None, Some(true)) => Look::OtherOne,
+            (None, None) if self.negates && low.same(high.flip()) => Look::Opposite,
+            _ => Look::Plain,
+        };
+        self.answer(look)
     }
 }

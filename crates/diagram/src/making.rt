@@ -48,7 +48,7 @@ impl Edge {
 }
 
 impl Diamond {
-    // Whether the two diamonds have the same low and the same high edge.
+    // Whether the two diamonds have the same low and the same high edge: `==`, promised to be the test in specs/.
     pub fn same(self, other: Diamond) -> bool
         ensures { result ≡ same_diamond_record self other }
     {

@@ -34,7 +34,7 @@ impl fmt::Display for Word {
     }
 }
 
-// How an edge's mark is written.
+// How an edge's mark is written; the library writes signs of numbers only.
 fn mark(negated: bool) -> &'static str
     ensures { result.now ≡ mark_text negated }
 {

@@ -5,7 +5,7 @@ ghost use Rattle.diagram.specs.Refusals.{refusal_number, refusal_values, first_v
 use crate::refusals::Refusal;
 
 impl Refusal {
-    // The number that the refusal is reported by.
+    // The number that the refusal is reported by; the enum cannot number a case that carries a value.
     pub fn number(self) -> u8
         ensures { result ≡ refusal_number self }
     {
@@ -43,7 +43,7 @@ impl Refusal {
         }
     }
 
-    // Whether the two refusals are the same.
+    // Whether the two refusals are the same: what `==` of refusals holds of.
     pub fn same(self, other: Refusal) -> bool
         ensures by_parts { result ≡ same_refusal self other }
         ensures same { IsTrue result ↔ (self ≡ other) }

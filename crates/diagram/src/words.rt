@@ -1,11 +1,11 @@
-// Words: the only octal arithmetic there is. A word is a numeral of `length` octal digits, the topmost letter first.
+// Words: the only octal arithmetic there is, printing aside. A word is a numeral of `length` octal digits, the topmost letter first.
 ghost use Rattle.std.specs.Prelude.{◌≡◌, ◌^◌, ◌<◌, ◌≤◌, ◌&&◌, ◌∷◌, IfSome, nat_le};
 ghost use Rattle.diagram.specs.Words.{letters_of, spells, peeled, pushed};
 
 use crate::edges::Word;
 use crate::letters::Letter;
 
-// 8 to the power of n.
+// 8 to the power of n, with the bounds that words need.
 fn power(n: u8) -> u64
     requires { n ≤ 20 }
     ensures value { result ≡ 8 ^ n }

@@ -10,24 +10,24 @@ use crate::profiles::Profile;
 use diagram::letters::{Letter, Look};
 
 // u alone: the code and whether it negates are all in which such dialects differ.
-pub struct UAlone<const NUMBER: u8, const SIGNED: bool>;
+pub struct UAlone<const NUMBER: u8, const NEGATING: bool>;
 
-impl<const NUMBER: u8, const SIGNED: bool> Dialect for UAlone<NUMBER, SIGNED> {
+impl<const NUMBER: u8, const NEGATING: bool> Dialect for UAlone<NUMBER, NEGATING> {
     const CODE: u8 = NUMBER;
 
     ghost CODE = { NUMBER };
 
-    const NEGATES: bool = SIGNED;
+    const NEGATES: bool = NEGATING;
 
-    ghost NEGATES = { SIGNED };
+    ghost NEGATES = { NEGATING };
 
-    ghost meaning = { u_alone NUMBER SIGNED };
+    ghost meaning = { u_alone NUMBER NEGATING };
 
     ghost coded = { refl };
 
     ghost negating = { refl };
 
-    ghost sound = { u_alone_lawful NUMBER SIGNED };
+    ghost sound = { u_alone_lawful NUMBER NEGATING };
 
     fn has(letter: Letter) -> bool {
         matches!(letter, Letter::U)
@@ -155,31 +155,5 @@ pub fn built_in() -> [Profile; 5]
         Profile::of::<Dialect3>(),
         Profile::of::<Dialect4>(),
         Profile::of::<Dialect5>(),
-    ]
-}
-
-// The codes of the built-in dialects, by their constants: each is the code of its meaning.
-pub fn codes() -> [u8; 5]
-    ensures { result ≡ dialect1.code ∷ dialect2.code ∷ dialect3.code ∷ dialect4.code ∷ dialect5.code ∷ [] }
-{
-    [
-        Dialect1::CODE,
-        Dialect2::CODE,
-        Dialect3::CODE,
-        Dialect4::CODE,
-        Dialect5::CODE,
-    ]
-}
-
-// Which of the built-in dialects negate, by their constants: each as its meaning says.
-pub fn negations() -> [bool; 5]
-    ensures { result ≡ dialect1.negates ∷ dialect2.negates ∷ dialect3.negates ∷ dialect4.negates ∷ dialect5.negates ∷ [] }
-{
-    [
-        Dialect1::NEGATES,
-        Dialect2::NEGATES,
-        Dialect3::NEGATES,
-        Dialect4::NEGATES,
-        Dialect5::NEGATES,
     ]
 }

@@ -10,11 +10,13 @@ pub trait Dialect {
     // The code that files name the dialect by.
     const CODE: u8;
 
+    // the same, as clauses name it
     ghost CODE: { ℕ };
 
     // Whether edges may be negated.
     const NEGATES: bool;
 
+    // the same, as clauses name it
     ghost NEGATES: { Bool };
 
     ghost meaning: { Meaning };

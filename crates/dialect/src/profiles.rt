@@ -31,16 +31,10 @@ impl Profile {
     }
 
     // The profile with this meaning, if the meaning is lawful.
-    pub fn checked(code: u8, negates: bool, letters: Letters, answers: Answers) -> Option<Profile>
-        ensures { (let m : Meaning = record { code = code; negates = negates; letters = letters; answers = answers } in
-            option_map (λ (p : Profile). p.meaning) result ≡ then_some (lawful m) m) }
+    pub fn checked(meaning: Meaning) -> Option<Profile>
+        ensures { option_map (λ (p : Profile). p.meaning) result ≡ then_some (lawful meaning) meaning }
     {
-        let meaning = Meaning {
-            code,
-            negates,
-            letters,
-            answers,
-        };
+        // an `if`, since the ghost field of a profile is proved from its branch
         if meaning.is_lawful() {
             Some(Profile { meaning })
         } else {

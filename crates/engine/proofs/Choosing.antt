@@ -1,5 +1,5 @@
 -- Edges made from two halves that are accepted: by a letter, or by a diamond.
-use Rattle.std.proofs.Common.{◌≡◌, ℕ, ◌<◌, ◌≤◌, Bool, true, false, cond, not, leb, List, length, Some, None, Ok, Err, Option, Result, sym, refl, ap, ◌∙◌, arith}
+use Rattle.std.proofs.Common.{◌≡◌, ◌<◌, ◌≤◌, Bool, true, false, cond, not, leb, List, length, Some, None, Ok, Err, Option, Result, sym, refl, ap, ◌∙◌, arith}
 use Rattle.diagram.specs.declared.letters.Letter.{Letter}
 use Rattle.diagram.specs.declared.letters.Letter.TheVariants.{U, X, C00, C01, C10, C11}
 use Rattle.diagram.specs.declared.edges.Edge.{Edge as EdgeRecord}
@@ -92,7 +92,7 @@ module _ (D : Meaning) (ds : List DiamondRecord) (low high : EdgeRecord) (f : Ha
     where
       go : (b : Bool) → D.negates ≡ b → D.negates ≡ true
       go true p = p
-      go false p = let q = (acceptable_in D ds low f.low_in).accepted.signed p in let z : ◌≡◌ {A = ℕ} 0 1 = cc in absurd (omega arith)
+      go false p = let q = (acceptable_in D ds low f.low_in).accepted.signed p in absurd cc
 
   pub joins_flipped : Lawful D → letter_for D low high ≡ None → low.negated ≡ true → Joins D ds (record { low = other_mark low; high = other_mark high })
   joins_flipped law e u =

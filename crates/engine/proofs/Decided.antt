@@ -138,7 +138,7 @@ module _ (D : Meaning) (ds : List DiamondRecord) (w : HeldWell D ds) where
           let t = other_right e m a.accepted in
           let u : other_mark e ≡ r = cc in
           subst (Right (applied true false (rule_in ds e))) u (t.0, t.1 ∙ sym (applied_other (rule_in ds e)))
-      go false m q = let z : ◌≡◌ {A = ℕ} 0 1 = cc in absurd (omega arith)
+      go false m q = absurd cc
 
   -- What is settled --
 
@@ -188,7 +188,7 @@ module _ (D : Meaning) (ds : List DiamondRecord) (w : HeldWell D ds) where
             sym (negate_negate (rule_in ds b)) ∙ ap negate (sym (sense_flip (diamond_rule (store_of ds)) (edge_of b)) ∙ ap (rule_in ds) (sym c)) in
             let t : target ≡ applied (op false true) (op true false) (rule_in ds a) = ap (pointwise op (rule_in ds a)) m ∙ with_other op (rule_in ds a) in
             subst (λ (x : Rule). Right x r) (sym t) (by_one_right (op false true) (op true false) a n r ha k)
-        go false e false i k = let z : ◌≡◌ {A = ℕ} 0 1 = cc in absurd (omega arith)
+        go false e false i k = absurd cc
 
     -- what is settled is accepted and means the combination
     pub settled_right : (r : EdgeRecord) → settled_by D op (constant_of a) (constant_of b) a b n ≡ Some r → Right target r
@@ -206,6 +206,5 @@ module _ (D : Meaning) (ds : List DiamondRecord) (w : HeldWell D ds) where
             let x = leaf a ha z in
             let y = leaf b hb z in
             let t : settled_by D op (Some x.0) (Some y.0) a b n ≡ None = sym (ap₂ (λ (u v : Option Bool). settled_by D op u v a b n) x.1 y.1) ∙ h in
-            let o : ◌≡◌ {A = ℕ} 0 1 = cc in
-            absurd (omega arith)
+            absurd cc
         go (suc m) z = omega arith

@@ -1,30 +1,27 @@
 -- Combining by halves: what is inserted for the low halves, then for the high halves, and made from the two, is what is inserted for the whole.
-use Rattle.std.proofs.Common.{◌≡◌, ℕ, ◌-◌, ◌<◌, ◌≤◌, Bool, true, false, cond, leb, List, length, take, IfOk, Some, None, Ok, Err, Option, Result, sym, ap, ◌∙◌, subst, ap₂, arith, take_all, take-take}
+use Rattle.std.proofs.Common.{◌≡◌, ℕ, ◌<◌, ◌≤◌, Bool, true, false, cond, leb, List, length, take, MatchOption, IfOk, Some, None, Ok, Err, Option, Result, sym, ap, ◌∙◌, subst, ap₂, arith, take_all, take-take}
 use Rattle.std.proofs.lemmas.Bool.{lt-leb}
 use Rattle.diagram.specs.declared.edges.Edge.{Edge as EdgeRecord}
 use Rattle.diagram.specs.declared.edges.Diamond.{Diamond as DiamondRecord}
 use Rattle.diagram.specs.declared.meanings.Meaning.{Meaning}
 use Rattle.diagram.specs.declared.refusals.Refusal.{Refusal}
 use Rattle.diagram.specs.declared.refusals.Refusal.TheVariants.{Full}
-use Rattle.diagram.specs.Rules.{Rule, constant, ◌⋆◌, arity, Balanced, pointwise, connective}
-use Rattle.diagram.specs.Edges.{Edge, Diamond, pair, Store, flip, rule_of}
-use Rattle.diagram.specs.Making.{Made, find, seat, add, make_by, make, choose, insert, low_half, high_half}
+use Rattle.diagram.specs.Rules.{Rule, constant, ◌⋆◌, arity, Balanced, connective}
+use Rattle.diagram.specs.Edges.{Edge, Diamond, pair, Store, flip}
+use Rattle.diagram.specs.Making.{Made, find, seat, add, make_by, make, choose, insert}
 use Rattle.diagram.specs.Acceptance.{Grown}
 use Rattle.diagram.specs.Records.{edge_of, store_of, edge_record, diamonds_of, accepted_in}
 use Rattle.diagram.specs.RecordTheorems.{rule_in}
 use Rattle.diagram.proofs.Sound.{insert_sound}
-use Rattle.diagram.proofs.Placed.{arity_record}
-use Rattle.diagram.proofs.Told.{arity_pointwise}
 use Rattle.diagram.proofs.Recorded.{edge_there, store_there, store_length}
-use Rattle.diagram.proofs.Recording.{normal_of, acceptable_in}
+use Rattle.diagram.proofs.Recording.{normal_of}
 use Rattle.cache.specs.declared.entries.Key.{Key}
 use Rattle.engine.specs.declared.states.State.{State}
 use Rattle.engine.specs.Steps.{Outcome, kept, inserted, joint, combine_step, right_for}
 use Rattle.basics.specs.Settled.{settled}
-use Rattle.engine.specs.States.{KeyOfArity, Joined, HalfKey, HalvesFit}
+use Rattle.engine.specs.States.{KeyOfArity, Joined, HalvesFit}
 use Rattle.engine.specs.Laws.{HeldWell}
 use Rattle.engine.proofs.Lawlike.{kept_parts, inserted_right, inserted_refused, state_well}
-use Rattle.engine.proofs.Halved.{halves}
 use Rattle.engine.proofs.Remembered.{Asked, asked_step, step_asked, joint_balanced, joint_arity, known, lasts, lasts_arity, asked_lasts, right_met, right_read}
 use Rattle.engine.proofs.Decided.{settled_right, unsettled_marks}
 
@@ -143,6 +140,10 @@ begins_then ds es xs l p q = sym (take-take (length ds) (length es) xs l) ∙ ap
 
 -- What an answer leaves --
 
+-- an answer that was joined, as an equation
+joined_told : (D : Meaning) (ds : List DiamondRecord) (f : Rule) (e : EdgeRecord) (es : List DiamondRecord) → Joined D ds f (Ok e) es → ◌≡◌ {A = Outcome} (inserted D ds f) (Ok e, es)
+joined_told D ds f e es j = sym (ap₂ (λ (r : Result EdgeRecord Refusal) (xs : List DiamondRecord). (r, xs)) j.answer j.grown)
+
 module _ (D : Meaning) (ds : List DiamondRecord) (w : HeldWell D ds) (f : Rule) (ev : Balanced f) (l : arity f ≤ 20) (e : EdgeRecord) (es : List DiamondRecord) (p : ◌≡◌ {A = Outcome} (inserted D ds f) (Ok e, es)) where
   pub answer_well : HeldWell D es
   answer_well = (inserted_right D ds w f ev l e es p).1
@@ -189,46 +190,13 @@ module _ (D : Meaning) (ds : List DiamondRecord) (k : Key) (n : ℕ) (h : KeyOfA
         a.1,
       )
 
-  pub key_marks : HeldWell D ds → arity (joint_of ds k) ≡ n
-  key_marks w = arity_pointwise (connective k.connective) (rule_in ds k.left) (rule_in ds k.right) level ∙ left_marks
-    where
-      left_marks : arity (rule_in ds k.left) ≡ n
-      left_marks = arity_record (store_of ds) k.left ∙ h.left.marks
-
-      level : arity (rule_in ds k.left) ≡ arity (rule_in ds k.right)
-      level = left_marks ∙ sym (arity_record (store_of ds) k.right ∙ h.right.marks)
-
-  pub key_short : n ≤ 20
-  key_short =
-      let a = (acceptable_in D ds k.left h.left.accepted).short in
-      let b = arity_record (store_of ds) k.left in
-      let c = h.left.marks in
-      omega arith
-
--- the whole combination is that of the low halves, and that of the high halves
-pub joint_halves : (D : Meaning) (ds : List DiamondRecord) → HeldWell D ds → (k : Key) (n : ℕ) → KeyOfArity D ds k n → 0 < n → (l h : Key) → HalfKey D ds k false l → HalfKey D ds k true h →
-    joint_of ds k ≡ joint_of ds l ⋆ joint_of ds h
-joint_halves D ds w k n a i l h p q =
-    let s = store_of ds in
-    let x = (halves D w.lawful ds w.normal.0 k.left n a.left i).rule in
-    let y = (halves D w.lawful ds w.normal.0 k.right n a.right i).rule in
-    let lx : rule_in ds l.left ≡ rule_of s (low_half D s (edge_of k.left)) = ap (rule_of s) p.left in
-    let ly : rule_in ds l.right ≡ rule_of s (low_half D s (edge_of k.right)) = ap (rule_of s) p.right in
-    let hx : rule_in ds h.left ≡ rule_of s (high_half D s (edge_of k.left)) = ap (rule_of s) q.left in
-    let hy : rule_in ds h.right ≡ rule_of s (high_half D s (edge_of k.right)) = ap (rule_of s) q.right in
-    let op = connective k.connective in
-    ap₂ (pointwise op) (x ∙ sym (ap₂ ◌⋆◌ lx hx)) (y ∙ sym (ap₂ ◌⋆◌ ly hy))
-    ∙ ap₂ ◌⋆◌
-    (ap (λ (c : ℕ). pointwise (connective c) (rule_in ds l.left) (rule_in ds l.right)) (sym p.same))
-    (ap (λ (c : ℕ). pointwise (connective c) (rule_in ds h.left) (rule_in ds h.right)) (sym q.same))
-
 -- The steps of a combination --
 
 module _ (D : Meaning) (ds : List DiamondRecord) (w : HeldWell D ds) (k : Key) (n : ℕ) (a : KeyOfArity D ds k n) where
-  whole_balanced : Balanced (joint_of ds k)
+  pub whole_balanced : Balanced (joint_of ds k)
   whole_balanced = joint_balanced D ds w k.connective k.left k.right (key_asked D ds k n a)
 
-  whole_short : arity (joint_of ds k) ≤ 20
+  pub whole_short : arity (joint_of ds k) ≤ 20
   whole_short = joint_arity D ds w k.connective k.left k.right (key_asked D ds k n a)
 
   -- a result that stands
@@ -237,14 +205,10 @@ module _ (D : Meaning) (ds : List DiamondRecord) (w : HeldWell D ds) (k : Key) (
       let q = sym (asked_step D ds k.connective k.left k.right (key_asked D ds k n a)) ∙ p in
       record { answer = ap (λ (o : Outcome). o.0) (sym q); grown = ap (λ (o : Outcome). o.1) (sym q); begins = begins_same ds }
 
-  -- an answer that was joined, as an equation
-  pub joined_told : (e : EdgeRecord) (es : List DiamondRecord) → Joined D ds (joint_of ds k) (Ok e) es → ◌≡◌ {A = Outcome} (inserted D ds (joint_of ds k)) (Ok e, es)
-  joined_told e es j = sym (ap₂ (λ (r : Result EdgeRecord Refusal) (xs : List DiamondRecord). (r, xs)) j.answer j.grown)
-
   -- the answer may be remembered
   pub joined_stands : (e : EdgeRecord) (es : List DiamondRecord) → Joined D ds (joint_of ds k) (Ok e) es → ◌≡◌ {A = Outcome} (combine_step D es k.connective k.left k.right) (Ok e, es)
   joined_stands e es j =
-      let p = joined_told e es j in
+      let p = joined_told D ds (joint_of ds k) e es j in
       let v = answer_well D ds w (joint_of ds k) whole_balanced whole_short e es p in
       let g = answer_grown D ds w (joint_of ds k) whole_balanced whole_short e es p in
       let t = key_lasts D ds k n a es v g in
@@ -253,7 +217,7 @@ module _ (D : Meaning) (ds : List DiamondRecord) (w : HeldWell D ds) (k : Key) (
 
   -- the answer is that of the call
   pub joined_step : (e : EdgeRecord) (es : List DiamondRecord) → Joined D ds (joint_of ds k) (Ok e) es → ◌≡◌ {A = Outcome} (combine_step D ds k.connective k.left k.right) (Ok e, es)
-  joined_step e es j = asked_step D ds k.connective k.left k.right (key_asked D ds k n a) ∙ joined_told e es j
+  joined_step e es j = asked_step D ds k.connective k.left k.right (key_asked D ds k n a) ∙ joined_told D ds (joint_of ds k) e es j
 
   -- and so is a refusal, which is 7
   pub refused_step : (x : Refusal) (es : List DiamondRecord) → Joined D ds (joint_of ds k) (Err x) es → ◌≡◌ {A = Outcome} (combine_step D ds k.connective k.left k.right) (Err Full, ds) × (x ≡ Full)
@@ -263,96 +227,58 @@ module _ (D : Meaning) (ds : List DiamondRecord) (w : HeldWell D ds) (k : Key) (
       let r = inserted_refused D ds f x (inserted D ds f).1 q in
       (asked_step D ds k.connective k.left k.right (key_asked D ds k n a) ∙ q ∙ ap₂ (λ (y : Refusal) (xs : List DiamondRecord). (Err y, xs)) r.0 r.1, r.0)
 
-  module _ (i : 0 < n) (l h : Key) (al : KeyOfArity D ds l (n - 1)) (ah : KeyOfArity D ds h (n - 1)) (p : HalfKey D ds k false l) (q : HalfKey D ds k true h) where
-    split_whole : joint_of ds k ≡ joint_of ds l ⋆ joint_of ds h
-    split_whole = joint_halves D ds w k n a i l h p q
+-- A rule is inserted by its halves --
 
-    pub break_low : (x : Refusal) (es : List DiamondRecord) → Joined D ds (joint_of ds l) (Err x) es → Joined D ds (joint_of ds k) (Err x) es
-    break_low x es j = record {
-      answer = low_refused D ds (joint_of ds l) (joint_of ds h) x j.answer ∙ ap (λ (f : Rule). (inserted D ds f).0) (sym split_whole);
-      grown = tt;
-      begins = j.begins;
-    }
+module _ (D : Meaning) (ds : List DiamondRecord) (w : HeldWell D ds) (f g : Rule) (ev : Balanced (f ⋆ g)) (s : arity (f ⋆ g) ≤ 20) where
+  pub break_low : (x : Refusal) (es : List DiamondRecord) → Joined D ds f (Err x) es → Joined D ds (f ⋆ g) (Err x) es
+  break_low x es j = record { answer = low_refused D ds f g x j.answer; grown = tt; begins = j.begins }
 
-    -- the low halves were answered
-    module _ (e : EdgeRecord) (es : List DiamondRecord) (j : Joined D ds (joint_of ds l) (Ok e) es) where
-      low_balanced : Balanced (joint_of ds l)
-      low_balanced = joint_balanced D ds w l.connective l.left l.right (key_asked D ds l (n - 1) al)
+  -- the low half was answered
+  module _ (e : EdgeRecord) (es : List DiamondRecord) (j : Joined D ds f (Ok e) es) where
+    low_short : arity f ≤ 20
+    low_short = omega arith
 
-      low_short : arity (joint_of ds l) ≤ 20
-      low_short = joint_arity D ds w l.connective l.left l.right (key_asked D ds l (n - 1) al)
+    low_told : ◌≡◌ {A = Outcome} (inserted D ds f) (Ok e, es)
+    low_told = joined_told D ds f e es j
 
-      low_told : ◌≡◌ {A = Outcome} (inserted D ds (joint_of ds l)) (Ok e, es)
-      low_told = sym (ap₂ (λ (r : Result EdgeRecord Refusal) (xs : List DiamondRecord). (r, xs)) j.answer j.grown)
+    pub low_well : HeldWell D es
+    low_well = answer_well D ds w f ev.0 low_short e es low_told
 
-      pub low_well : HeldWell D es
-      low_well = answer_well D ds w (joint_of ds l) low_balanced low_short e es low_told
+    pub low_grown : Grown (store_of ds) (store_of es)
+    low_grown = answer_grown D ds w f ev.0 low_short e es low_told
 
-      pub low_grown : Grown (store_of ds) (store_of es)
-      low_grown = answer_grown D ds w (joint_of ds l) low_balanced low_short e es low_told
+    low_begins : (xs : List DiamondRecord) → take (length es) xs ≡ es → take (length ds) xs ≡ ds
+    low_begins xs b = begins_then ds es xs (answer_longer D ds w f ev.0 low_short e es low_told) j.begins b
 
-      pub high_asked : KeyOfArity D es h (n - 1)
-      high_asked = (key_lasts D ds h (n - 1) ah es low_well low_grown).0
+    pub break_high : (x : Refusal) (xs : List DiamondRecord) → Joined D es g (Err x) xs → Joined D ds (f ⋆ g) (Err x) xs
+    break_high x xs m = record { answer = high_refused D ds f e es low_told g x m.answer; grown = tt; begins = low_begins xs m.begins }
 
-      high_same : joint_of es h ≡ joint_of ds h
-      high_same = (key_lasts D ds h (n - 1) ah es low_well low_grown).1
+    -- the high half was answered too
+    module _ (d : EdgeRecord) (xs : List DiamondRecord) (m : Joined D es g (Ok d) xs) where
+      high_short : arity g ≤ 20
+      high_short = omega (arith, ev.2)
 
-      low_begins : (xs : List DiamondRecord) → take (length es) xs ≡ es → take (length ds) xs ≡ ds
-      low_begins xs b = begins_then ds es xs (answer_longer D ds w (joint_of ds l) low_balanced low_short e es low_told) (answer_begins D ds w (joint_of ds l) low_balanced low_short e es low_told) b
+      high_told : ◌≡◌ {A = Outcome} (inserted D es g) (Ok d, xs)
+      high_told = joined_told D es g d xs m
 
-      pub break_high : (x : Refusal) (xs : List DiamondRecord) → Joined D es (joint_of es h) (Err x) xs → Joined D ds (joint_of ds k) (Err x) xs
-      break_high x xs m = record {
-        answer =
-            high_refused D ds (joint_of ds l) e es low_told (joint_of ds h) x (m.answer ∙ ap (λ (f : Rule). (inserted D es f).0) high_same)
-            ∙ ap (λ (f : Rule). (inserted D ds f).0) (sym split_whole);
-        grown = tt;
-        begins = low_begins xs m.begins;
-      }
+      pub halves_fit : HalvesFit D xs e d
+      halves_fit =
+          let v = answer_well D es low_well g ev.1 high_short d xs high_told in
+          let k = answer_grown D es low_well g ev.1 high_short d xs high_told in
+          let c = lasts D es xs v k e (answer_accepted D ds w f ev.0 low_short e es low_told) in
+          let u : arity (rule_in xs e) ≡ arity f = ap arity (c.1 ∙ answer_means D ds w f ev.0 low_short e es low_told) in
+          let t : arity (rule_in xs d) ≡ arity g = ap arity (answer_means D es low_well g ev.1 high_short d xs high_told) in
+          record { low_in = c.0; high_in = answer_accepted D es low_well g ev.1 high_short d xs high_told; level = u ∙ ev.2 ∙ sym t; short = omega arith }
 
-      -- the high halves were answered too
-      module _ (d : EdgeRecord) (xs : List DiamondRecord) (m : Joined D es (joint_of es h) (Ok d) xs) where
-        high_balanced : Balanced (joint_of es h)
-        high_balanced = joint_balanced D es low_well h.connective h.left h.right (key_asked D es h (n - 1) high_asked)
-
-        high_short : arity (joint_of es h) ≤ 20
-        high_short = joint_arity D es low_well h.connective h.left h.right (key_asked D es h (n - 1) high_asked)
-
-        high_told : ◌≡◌ {A = Outcome} (inserted D es (joint_of es h)) (Ok d, xs)
-        high_told = sym (ap₂ (λ (r : Result EdgeRecord Refusal) (ys : List DiamondRecord). (r, ys)) m.answer m.grown)
-
-        high_well : HeldWell D xs
-        high_well = answer_well D es low_well (joint_of es h) high_balanced high_short d xs high_told
-
-        pub halves_fit : HalvesFit D xs e d
-        halves_fit =
-            let g = answer_grown D es low_well (joint_of es h) high_balanced high_short d xs high_told in
-            let c = lasts D es xs high_well g e (answer_accepted D ds w (joint_of ds l) low_balanced low_short e es low_told) in
-            let u : arity (rule_in xs e) ≡ n - 1 =
-            ap arity (c.1 ∙ answer_means D ds w (joint_of ds l) low_balanced low_short e es low_told) ∙ key_marks D ds l (n - 1) al w in
-            let v : arity (rule_in xs d) ≡ n - 1 =
-            ap arity (answer_means D es low_well (joint_of es h) high_balanced high_short d xs high_told) ∙ key_marks D es h (n - 1) high_asked low_well in
-            let t = key_short D ds k n a in
-            record {
-              low_in = c.0;
-              high_in = answer_accepted D es low_well (joint_of es h) high_balanced high_short d xs high_told;
-              level = u ∙ sym v;
-              short = omega arith;
-            }
-
-        pub joined_both : (r : Result EdgeRecord Refusal) (ys : List DiamondRecord) → ◌≡◌ {A = Outcome} (r, ys) (kept xs (make D (store_of xs) (edge_of e) (edge_of d))) → Joined D ds (joint_of ds k) r ys
-        joined_both r ys o =
-            let both = both_kept D ds (joint_of ds l) e es low_told (joint_of ds h) d xs (ap (inserted D es) (sym high_same) ∙ high_told) r ys o in
-            let s : (r ≡ (inserted D ds (joint_of ds k)).0) × IfOk r (λ x. ys ≡ (inserted D ds (joint_of ds k)).1) =
-            subst (λ (f : Rule). (r ≡ (inserted D ds f).0) × IfOk r (λ x. ys ≡ (inserted D ds f).1)) (sym split_whole) both in
-            record { answer = s.0; grown = s.1; begins = begin r o s.0 s.1 }
-          where
-            begin : (r : Result EdgeRecord Refusal) → ◌≡◌ {A = Outcome} (r, ys) (kept xs (make D (store_of xs) (edge_of e) (edge_of d))) →
-                r ≡ (inserted D ds (joint_of ds k)).0 → IfOk r (λ x. ys ≡ (inserted D ds (joint_of ds k)).1) → take (length ds) ys ≡ ds
-            begin (Ok x) o p q =
-                answer_begins D ds w (joint_of ds k) whole_balanced whole_short x ys (sym (ap₂ (λ (r : Result EdgeRecord Refusal) (zs : List DiamondRecord). (r, zs)) p q))
-            begin (Err x) o p q =
-                let t : ys ≡ xs = kept_back xs (make D (store_of xs) (edge_of e) (edge_of d)) x ys o in
-                low_begins ys (ap (take (length es)) t ∙ m.begins)
+      pub joined_both : (r : Result EdgeRecord Refusal) (ys : List DiamondRecord) → ◌≡◌ {A = Outcome} (r, ys) (kept xs (make D (store_of xs) (edge_of e) (edge_of d))) → Joined D ds (f ⋆ g) r ys
+      joined_both r ys o = let t = both_kept D ds f e es low_told g d xs high_told r ys o in record { answer = t.0; grown = t.1; begins = begin r o t.0 t.1 }
+        where
+          begin : (r : Result EdgeRecord Refusal) → ◌≡◌ {A = Outcome} (r, ys) (kept xs (make D (store_of xs) (edge_of e) (edge_of d))) →
+              r ≡ (inserted D ds (f ⋆ g)).0 → IfOk r (λ x. ys ≡ (inserted D ds (f ⋆ g)).1) → take (length ds) ys ≡ ds
+          begin (Ok x) o p q = answer_begins D ds w (f ⋆ g) ev s x ys (sym (ap₂ (λ (r : Result EdgeRecord Refusal) (zs : List DiamondRecord). (r, zs)) p q))
+          begin (Err x) o p q =
+              let t : ys ≡ xs = kept_back xs (make D (store_of xs) (edge_of e) (edge_of d)) x ys o in
+              low_begins ys (ap (take (length es)) t ∙ m.begins)
 
 -- a call that was accepted is accepted again, and adds nothing
 pub step_again : (D : Meaning) (ds : List DiamondRecord) → HeldWell D ds → (c : ℕ) (a b e : EdgeRecord) (es : List DiamondRecord) → ◌≡◌ {A = Outcome} (combine_step D ds c a b) (Ok e, es) →
@@ -366,10 +292,6 @@ step_again D ds w c a b e es p =
     let v = answer_well D ds w f ev l e es q in
     let t = asked_lasts D ds es v (answer_grown D ds w f ev l e es q) c a b k in
     asked_step D es c a b t.0 ∙ known D es v (joint es c a b) e (answer_accepted D ds w f ev l e es q) (answer_means D ds w f ev l e es q ∙ sym t.1)
-
--- nothing is said of an edge where there is a refusal
-pub refused_made : (P : EdgeRecord → Type 0) (r : Result EdgeRecord Refusal) (x : Refusal) → r ≡ Err x → IfOk r P
-refused_made P r x p = subst (λ (q : Result EdgeRecord Refusal). IfOk q P) (sym p) tt
 
 -- The same, of an engine's state --
 
@@ -387,18 +309,13 @@ module _ (s : State) (k : Key) (n : ℕ) (a : KeyOfArity s.profile.meaning s.dia
       right_met s.profile.meaning s.diamonds (state_well s) k e
       (joined_stands s.profile.meaning s.diamonds (state_well s) k n a e s.diamonds j)
 
-  module _ (m : Meaning) (is : m ≡ s.profile.meaning) where
-    -- a result that was settled
-    pub joined_settled : (e : EdgeRecord) → Some e ≡ settled m k n → Joined s.profile.meaning s.diamonds (joint_of s.diamonds k) (Ok e) s.diamonds
-    joined_settled e h =
-        let D = s.profile.meaning in
-        let ds = s.diamonds in
-        let r = settled_right D ds (state_well s) (connective k.connective) k.left k.right n a.left a.right e (ap (λ (x : Meaning). settled x k n) (sym is) ∙ sym h) in
-        joined_known D ds (state_well s) k n a e
-        (asked_step D ds k.connective k.left k.right (key_asked D ds k n a) ∙ known D ds (state_well s) (joint_of ds k) e r.0 r.1)
-
-    -- a combination that is not settled has a mark
-    pub unsettled_some : None ≡ settled m k n → 0 < n
-    unsettled_some h =
-        unsettled_marks s.profile.meaning s.diamonds (state_well s) (connective k.connective) k.left k.right n a.left a.right
-        (ap (λ (x : Meaning). settled x k n) (sym is) ∙ sym h)
+  -- a combination that is settled is answered by its edge, and one that is not has a mark
+  pub settled_joined : (r : Option EdgeRecord) → r ≡ settled s.profile.meaning k n →
+      MatchOption r (0 < n) (λ e. Joined s.profile.meaning s.diamonds (joint_of s.diamonds k) (Ok e) s.diamonds)
+  settled_joined (Some e) h =
+      let D = s.profile.meaning in
+      let ds = s.diamonds in
+      let r = settled_right D ds (state_well s) (connective k.connective) k.left k.right n a.left a.right e (sym h) in
+      joined_known D ds (state_well s) k n a e
+      (asked_step D ds k.connective k.left k.right (key_asked D ds k n a) ∙ known D ds (state_well s) (joint_of ds k) e r.0 r.1)
+  settled_joined None h = unsettled_marks s.profile.meaning s.diamonds (state_well s) (connective k.connective) k.left k.right n a.left a.right (sym h)

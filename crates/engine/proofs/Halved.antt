@@ -9,13 +9,13 @@ use Rattle.diagram.specs.declared.edges.Diamond.{Diamond as DiamondRecord}
 use Rattle.diagram.specs.declared.edges.Target.{Target as TargetRecord}
 use Rattle.diagram.specs.declared.edges.Target.TheVariants.{Zero, One, Diamond as DiamondNumber}
 use Rattle.diagram.specs.declared.meanings.Meaning.{Meaning}
-use Rattle.diagram.specs.Rules.{Rule, arity, Balanced, value}
+use Rattle.diagram.specs.Rules.{Rule, ◌⋆◌, arity, Balanced, value}
 use Rattle.diagram.specs.Words.{letters_of}
-use Rattle.diagram.specs.Edges.{Edge, edge, Diamond, Store, foot, sign, spell, diamond_rule, rule_of, diamond_at, flip}
+use Rattle.diagram.specs.Edges.{Edge, edge, Diamond, Store, foot, sign, spell, diamond_rule, rule_of, diamond_at}
 use Rattle.diagram.specs.Dialects.{Lawful}
-use Rattle.diagram.specs.Making.{flat, low_of, high_of, upright, low_upright, high_upright, flip_if, low_half, high_half}
+use Rattle.diagram.specs.Making.{flat, low_of, high_of, upright, low_upright, high_upright, low_half, high_half}
 use Rattle.diagram.specs.Acceptance.{Within, Accepted, Acceptable, normal}
-use Rattle.diagram.specs.Records.{target_of, edge_of, diamond_of, store_of, arity_in, spelled_edge, spelled_diamonds, accepted_in, edge_below, halves_on, other_mark}
+use Rattle.diagram.specs.Records.{target_of, edge_of, diamond_of, store_of, arity_in, spelled_edge, spelled_diamonds, accepted_in, edge_below, halves_on}
 use Rattle.diagram.proofs.Bridge.{arity_edge, nth}
 use Rattle.diagram.proofs.Notions.{Halves}
 use Rattle.diagram.proofs.Told.{balanced_rule}
@@ -25,7 +25,7 @@ use Rattle.diagram.proofs.Placed.{arity_record, arity_step, no_diamond}
 use Rattle.diagram.proofs.Recorded.{store_length, halves_there, halves_spelled}
 use Rattle.diagram.proofs.Recording.{spelled_in, acceptable_in, accepted_met}
 use Rattle.diagram.proofs.Spelt.{nothing_below, below_parts}
-use Rattle.engine.specs.States.{EdgeOfArity, half_at, end_value}
+use Rattle.engine.specs.States.{EdgeOfArity, end_value}
 
 -- a diamond of the list is that of the store
 pub diamond_there : (ds : List DiamondRecord) (k : ℕ) (d : DiamondRecord) → k < length ds → diamond_of (get_or ds k d) ≡ diamond_at (store_of ds) k
@@ -122,22 +122,7 @@ module _ (D : Meaning) (ds : List DiamondRecord) (e : EdgeRecord) (n : ℕ) (a :
   diamond_high k d z t =
       ap (λ (x : Diamond). x.high) (diamond_there ds k d (standing k t)) ∙ sym (ap₂ (λ (m : ℕ) (x : TargetRecord). high_upright D (store_of ds) (letters_of m e.word.digits) (target_of x)) z t)
 
--- Both halves, under the mark --
-
-half_flip : (D : Meaning) (s : Store) (e : EdgeRecord) (r : EdgeRecord) (high : Bool) →
-    edge_of r ≡ cond high (high_upright D s (edge_of e).word (edge_of e).target) (low_upright D s (edge_of e).word (edge_of e).target) →
-    (e.negated ≡ true → edge_of (other_mark r) ≡ half_at high D s (edge_of e)) × (e.negated ≡ false → edge_of r ≡ half_at high D s (edge_of e))
-half_flip D s e r true p = (λ n. ap flip p ∙ ap (λ (b : Bool). flip_if b (high_upright D s (edge_of e).word (edge_of e).target)) (sym n), λ n. p ∙ ap (λ (b : Bool). flip_if b (high_upright D s (edge_of e).word (edge_of e).target)) (sym n))
-half_flip D s e r false p = (λ n. ap flip p ∙ ap (λ (b : Bool). flip_if b (low_upright D s (edge_of e).word (edge_of e).target)) (sym n), λ n. p ∙ ap (λ (b : Bool). flip_if b (low_upright D s (edge_of e).word (edge_of e).target)) (sym n))
-
--- the half that was picked from the two, and the same with the other mark
-pub half_picked : (D : Meaning) (s : Store) (e : EdgeRecord) (low high r : EdgeRecord) (b : Bool) → (spelled_edge low ≡ true) × (spelled_edge high ≡ true) →
-    edge_of low ≡ low_upright D s (edge_of e).word (edge_of e).target → edge_of high ≡ high_upright D s (edge_of e).word (edge_of e).target → r ≡ cond b high low →
-    (spelled_edge r ≡ true)
-    × (e.negated ≡ true → edge_of (other_mark r) ≡ half_at b D s (edge_of e))
-    × (e.negated ≡ false → edge_of r ≡ half_at b D s (edge_of e))
-half_picked D s e low high r true h l u p = let f = half_flip D s e r true (ap edge_of p ∙ u) in (ap spelled_edge p ∙ h.1, f.0, f.1)
-half_picked D s e low high r false h l u p = let f = half_flip D s e r false (ap edge_of p ∙ l) in (ap spelled_edge p ∙ h.0, f.0, f.1)
+-- Both halves --
 
 module _ (D : Meaning) (law : Lawful D) (ds : List DiamondRecord) (ns : normal D (store_of ds) ≡ true) (e : EdgeRecord) (n : ℕ) (a : EdgeOfArity D ds e n) (h : 0 < n) where
   pub halves : Halves D (store_of ds) (edge_of e)
@@ -164,20 +149,35 @@ module _ (D : Meaning) (law : Lawful D) (ds : List DiamondRecord) (ns : normal D
       let c : Acceptable D (store_of ds) (edge_of r) = record { accepted = subst (λ (y : Edge). Accepted D (store_of ds) y) (sym p) b; short = omega arith } in
       record { accepted = accepted_met D ds r s c; marks = sym (arity_record (store_of ds) r) ∙ q }
 
-  pub half_fit : (r : EdgeRecord) (high : Bool) → spelled_edge r ≡ true → edge_of r ≡ half_at high D (store_of ds) (edge_of e) → EdgeOfArity D ds r (n - 1)
-  half_fit r true s p = fit (high_half D (store_of ds) (edge_of e)) halves.high_accepted halves_arity.1 r s p
-  half_fit r false s p = fit (low_half D (store_of ds) (edge_of e)) halves.low_accepted halves_arity.0 r s p
+  -- the halves have a mark less
+  pub halves_fit : (l h : EdgeRecord) → (spelled_edge l ≡ true) × (spelled_edge h ≡ true) →
+      edge_of l ≡ low_half D (store_of ds) (edge_of e) → edge_of h ≡ high_half D (store_of ds) (edge_of e) → EdgeOfArity D ds l (n - 1) × EdgeOfArity D ds h (n - 1)
+  halves_fit l h s p q = (
+    fit (low_half D (store_of ds) (edge_of e)) halves.low_accepted halves_arity.0 l s.0 p,
+    fit (high_half D (store_of ds) (edge_of e)) halves.high_accepted halves_arity.1 h s.1 q,
+  )
+
+  -- the rule of the whole is that of the low half, and that of the high half
+  pub halves_rule : (l h : EdgeRecord) → edge_of l ≡ low_half D (store_of ds) (edge_of e) → edge_of h ≡ high_half D (store_of ds) (edge_of e) →
+      rule_of (store_of ds) (edge_of e) ≡ rule_of (store_of ds) (edge_of l) ⋆ rule_of (store_of ds) (edge_of h)
+  halves_rule l h p q = halves.rule ∙ sym (ap₂ (λ (x y : Edge). rule_of (store_of ds) x ⋆ rule_of (store_of ds) y) p q)
 
   -- the value of the whole is that of the half which the first mark picks
-  pub half_value : (r : EdgeRecord) (x : ℕ) → edge_of r ≡ half_at (eqb (x % 2) 1) D (store_of ds) (edge_of e) →
-      value (rule_of (store_of ds) (edge_of r)) (x / 2) ≡ value (rule_of (store_of ds) (edge_of e)) x
-  half_value r x p = ap (λ (y : Edge). value (rule_of (store_of ds) y) (x / 2)) p ∙ go (eqb (x % 2) 1) refl ∙ sym (ap (λ (f : Rule). value f x) halves.rule)
+  pub half_value : (l h : EdgeRecord) (x : ℕ) → edge_of l ≡ low_half D (store_of ds) (edge_of e) → edge_of h ≡ high_half D (store_of ds) (edge_of e) →
+      value (rule_of (store_of ds) (edge_of (cond (eqb (x % 2) 1) h l))) (x / 2) ≡ value (rule_of (store_of ds) (edge_of e)) x
+  half_value l h x p q = go (eqb (x % 2) 1) refl ∙ sym (ap (λ (f : Rule). value f x) halves.rule)
     where
       go : (b : Bool) → eqb (x % 2) 1 ≡ b →
-          value (rule_of (store_of ds) (half_at b D (store_of ds) (edge_of e))) (x / 2)
+          value (rule_of (store_of ds) (edge_of (cond b h l))) (x / 2)
           ≡ cond (eqb (x % 2) 0) (value (rule_of (store_of ds) (low_half D (store_of ds) (edge_of e))) (x / 2)) (value (rule_of (store_of ds) (high_half D (store_of ds) (edge_of e))) (x / 2))
-      go true q = let o = eqb-true (x % 2) 1 q in let z = ne_eqb (x % 2) 0 (λ t. omega arith) in simp z
-      go false q = let o = eqb-false (x % 2) 1 q in let z = eq-eqb (x % 2) 0 (omega arith) in simp z
+      go true t =
+          let o = eqb-true (x % 2) 1 t in
+          let z = ne_eqb (x % 2) 0 (λ w. omega arith) in
+          simp z (ap (λ (y : Edge). value (rule_of (store_of ds) y) (x / 2)) q)
+      go false t =
+          let o = eqb-false (x % 2) 1 t in
+          let z = eq-eqb (x % 2) 0 (omega arith) in
+          simp z (ap (λ (y : Edge). value (rule_of (store_of ds) y) (x / 2)) p)
 
 -- the value of an edge of no mark
 pub value_none : (D : Meaning) (ds : List DiamondRecord) (e : EdgeRecord) (x : ℕ) → EdgeOfArity D ds e 0 → end_value e.negated e.target ≡ value (rule_of (store_of ds) (edge_of e)) x

@@ -15,9 +15,6 @@ use Rattle.diagram.proofs.Made.{number_alike, shallow_read, shallow_met}
 use Rattle.engine.specs.Steps.{kept}
 use Rattle.engine.specs.States.{Joins}
 
-never : {A : Type 0} → ◌≡◌ {A = ℕ} 0 1 → A
-never z = absurd (omega arith)
-
 -- What is kept --
 
 pub kept_same : (ds : List DiamondRecord) (e : Edge) → spelled_diamonds ds ≡ true → length ds ≤ 1024 → kept ds (store_of ds, e) ≡ (Ok (edge_record e), ds)
@@ -48,7 +45,7 @@ kept_full ds n e l =
 -- What is looked up --
 
 number_behind_less : (ds : List DiamondRecord) (d : DiamondRecord) (k : ℕ) → number_behind ds d ≡ Some k → k < length ds
-number_behind_less [] d k e = never (cc)
+number_behind_less [] d k e = absurd cc
 number_behind_less (x ∷ xs) d k e = go (same_diamond_record x d) e (number_behind_less xs d k)
   where
     go : (b : Bool) → cond b (Some (length xs)) (number_behind xs d) ≡ Some k → (number_behind xs d ≡ Some k → k < length xs) → k < suc (length xs)

@@ -1,6 +1,7 @@
 -- Constants and variables inserted.
-use Rattle.std.proofs.Common.{◌≡◌, ℕ, zero, suc, ◌-◌, ◌<◌, ◌≤◌, Bool, true, false, cond, ltb, leb, List, length, Some, Ok, Err, sym, refl, ap, ◌∙◌, subst, ap₂, arith}
-use Rattle.std.proofs.lemmas.Bool.{le-leb, lt-ltb, leb-true, ltb-true}
+use Rattle.std.proofs.Common.{◌≡◌, ℕ, zero, suc, ◌-◌, ◌<◌, ◌≤◌, Bool, true, false, cond, leb, List, length, Some, Ok, Err, Result, sym, refl, ap, ◌∙◌, subst, ap₂, arith}
+use Rattle.std.specs.Result.{IsErrAnd}
+use Rattle.std.proofs.lemmas.Result.{err_from_is_err_and}
 use Rattle.diagram.specs.declared.letters.Letter.TheVariants.{U}
 use Rattle.diagram.specs.declared.edges.Edge.{Edge as EdgeRecord}
 use Rattle.diagram.specs.declared.edges.Diamond.{Diamond as DiamondRecord}
@@ -23,7 +24,7 @@ use Rattle.diagram.proofs.Decides.{normal_right}
 use Rattle.diagram.proofs.Recorded.{edge_there, edge_spelled, constant_is, constant_there, constant_spelled}
 use Rattle.diagram.proofs.Recording.{accepted_met}
 use Rattle.diagram.proofs.Made.{insert_double, with_letter_there}
-use Rattle.engine.specs.Steps.{Outcome, kept, inserted, variable_step}
+use Rattle.engine.specs.Steps.{Outcome, kept, inserted}
 use Rattle.engine.specs.States.{HalvesFit}
 use Rattle.engine.proofs.Joining.{kept_same}
 
@@ -80,20 +81,14 @@ kept_put ds m r xs p = go (leb (length m.0) 1024) p
     go true q =
         let a : Ok r ≡ Ok (edge_record m.1) = ap (λ (o : Outcome). o.0) q in
         (cc, λ e. ap (λ (ys : List DiamondRecord). (Ok (edge_record e), ys)) (ap (λ (o : Outcome). o.1) (sym q)))
-    go false q =
-        let a : Ok r ≡ Err Full = ap (λ (o : Outcome). o.0) q in
-        let z : ◌≡◌ {A = ℕ} 0 1 = cc in
-        absurd (omega arith)
+    go false q = let a = ap (λ (o : Outcome). o.0) q in absurd cc
 
 pub kept_err : (ds : List DiamondRecord) (m : Made) (x : Refusal) (xs : List DiamondRecord) → ◌≡◌ {A = Outcome} (Err x, xs) (kept ds m) → (e : Edge) → kept ds (m.0, e) ≡ (Err x, xs)
 kept_err ds m x xs p e = go (leb (length m.0) 1024) p
   where
     go : (b : Bool) → ◌≡◌ {A = Outcome} (Err x, xs) (cond b (Ok (edge_record m.1), diamonds_of m.0) (Err Full, ds)) →
         ◌≡◌ {A = Outcome} (cond b (Ok (edge_record e), diamonds_of m.0) (Err Full, ds)) (Err x, xs)
-    go true q =
-        let a : Err x ≡ Ok (edge_record m.1) = ap (λ (o : Outcome). o.0) q in
-        let z : ◌≡◌ {A = ℕ} 0 1 = cc in
-        absurd (omega arith)
+    go true q = let a = ap (λ (o : Outcome). o.0) q in absurd cc
     go false q = sym q
 
 -- a later mark: u on the variable of the marks after the first
@@ -134,22 +129,15 @@ module _ (D : Meaning) (law : Lawful D) (ds : List DiamondRecord) (ns : normal D
 
 -- The calls --
 
-pub variable_answer : (D : Meaning) (ds : List DiamondRecord) (n i : ℕ) → n ≤ 20 → i < n → variable_step D ds n i ≡ inserted D ds (variable n i)
-variable_answer D ds n i l h = let p = le-leb n 20 l in let q = lt-ltb i n h in simp (p, q)
-
 -- a number that was answered passed its test, and is the one that was given
 pub passed : (b : Bool) (n m : ℕ) (x : Refusal) → Ok n ≡ cond b (Ok m) (Err x) → (b ≡ true) × (n ≡ m)
 passed true n m x p = (refl, cc)
-passed false n m x p = let z : ◌≡◌ {A = ℕ} 0 1 = cc in absurd (omega arith)
+passed false n m x p = absurd cc
 
--- and one that was refused did not pass
-pub barred : (b : Bool) (m : ℕ) (x y : Refusal) → Err y ≡ cond b (Ok m) (Err x) → (b ≡ false) × (y ≡ x)
-barred true m x y p = let z : ◌≡◌ {A = ℕ} 0 1 = cc in absurd (omega arith)
-barred false m x y p = (refl, cc)
-
--- what was inserted for the numbers that passed is the call's outcome
-pub variable_told : (D : Meaning) (ds : List DiamondRecord) (n i m j : ℕ) → (leb n 20 ≡ true) × (m ≡ n) → (ltb i m ≡ true) × (j ≡ i) → inserted D ds (variable m j) ≡ variable_step D ds n i
-variable_told D ds n i m j p q =
-    let a = ltb-true i m q.0 in
-    let b = p.1 in
-    ap₂ (λ (x y : ℕ). inserted D ds (variable x y)) p.1 q.1 ∙ sym (variable_answer D ds n i (leb-true n 20 p.0) (omega arith))
+-- what a call answers where a check refused
+pub refused_at : {A : Type 0} (b : Bool) (m : ℕ) (x y : Refusal) (r a : Result A Refusal) → Err y ≡ cond b (Ok m) (Err x) → IsErrAnd r (λ z. z ≡ y) → r ≡ cond b a (Err x)
+refused_at true m x y r a p q = absurd cc
+refused_at false m x y r a p q =
+    let u = err_from_is_err_and r q in
+    let v : y ≡ x = cc in
+    u.1 ∙ ap Err (u.2 ∙ v)

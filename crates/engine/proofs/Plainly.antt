@@ -1,5 +1,5 @@
 -- A combination is that of the unmarked edges, or its negation.
-use Rattle.std.proofs.Common.{◌≡◌, ℕ, ◌-◌, ◌<◌, ◌≤◌, Bool, true, false, List, Ok, Err, Result, sym, refl, ap, ◌∙◌, subst, ap₂, arith}
+use Rattle.std.proofs.Common.{◌≡◌, ℕ, ◌-◌, ◌≤◌, Bool, true, false, List, Ok, Err, Result, sym, refl, ap, ◌∙◌, subst, ap₂, arith}
 use Rattle.diagram.specs.declared.edges.Edge.{Edge}
 use Rattle.diagram.specs.declared.edges.Diamond.{Diamond}
 use Rattle.diagram.specs.declared.meanings.Meaning.{Meaning}
@@ -15,11 +15,15 @@ use Rattle.diagram.proofs.Told.{balanced_rule}
 use Rattle.basics.specs.Plain.{unmarked, turned, bits, plain_mark, plain_value, plain_key}
 use Rattle.cache.specs.declared.entries.Key.{Key}
 use Rattle.diagram.specs.Making.{make}
-use Rattle.diagram.specs.Acceptance.{Grown}
-use Rattle.engine.specs.Steps.{Outcome, kept}
-use Rattle.engine.specs.States.{KeyOfArity, HalfKey, HalvesFit, Joined}
+use Rattle.engine.specs.declared.states.State.{State}
+use Rattle.dialect.specs.declared.profiles.Profile.{Profile}
+use Rattle.basics.specs.declared.plain.Plain.{Plain}
+use Rattle.engine.specs.Steps.{Outcome, kept, combine_step, right_for}
+use Rattle.engine.specs.States.{KeyOfArity, Halving, HalvesFit, Joined, plain_rule}
 use Rattle.engine.specs.Laws.{HeldWell}
-use Rattle.engine.proofs.Halfwise.{joint_of, key_lasts, low_well, low_grown, break_high, halves_fit, joined_both}
+use Rattle.engine.proofs.Halfwise.{joint_of, key_lasts, whole_balanced, whole_short, joined_stands, break_low, low_well, low_grown, break_high, halves_fit, joined_both}
+use Rattle.engine.proofs.Lawlike.{state_well}
+use Rattle.engine.proofs.Remembered.{right_met}
 use Rattle.engine.proofs.Negated.{joined_negated}
 use Rattle.engine.proofs.Tallied.{unmarked_fit}
 
@@ -163,37 +167,94 @@ joined_turned D ds w true h f (Err x) es j = joined_negated D w.lawful (h refl) 
 joined_turned D ds w false h f (Ok e) es j = j
 joined_turned D ds w false h f (Err x) es j = j
 
--- The halves of a combination, each by its plain key --
+-- A combination of an engine's edges, by the plain combinations of its halves --
 
-module _ (D : Meaning) (ds : List Diamond) (w : HeldWell D ds) (k : Key) (n : ℕ) (a : KeyOfArity D ds k n) (i : 0 < n)
-    (l h : Key) (al : KeyOfArity D ds l (n - 1)) (ah : KeyOfArity D ds h (n - 1)) (p : HalfKey D ds k false l) (q : HalfKey D ds k true h)
-    (lp : Key) (lm : Bool) (ml : lm ≡ true → D.negates ≡ true) (rl : joint_of ds l ≡ sign lm (joint_of ds lp))
-    (hp : Key) (hm : Bool) (ahp : KeyOfArity D ds hp (n - 1)) (mh : hm ≡ true → D.negates ≡ true) (rh : joint_of ds h ≡ sign hm (joint_of ds hp)) where
-  pub low_joined : (r : Result Edge Refusal) (es : List Diamond) → Joined D ds (joint_of ds lp) r es → Joined D ds (joint_of ds l) (turned_answer lm r) es
-  low_joined r es j = subst (λ (f : Rule). Joined D ds f (turned_answer lm r) es) (sym rl) (joined_turned D ds w lm ml (joint_of ds lp) r es j)
+module _ (s : State) {k : Key} {n : ℕ} (a : KeyOfArity s.profile.meaning s.diamonds k n) {low high : Plain} (h : Halving s.profile.meaning s.diamonds k n low high) where
+  abbrev D : Meaning
+  D = s.profile.meaning
 
-  module _ (e : Edge) (es : List Diamond) (j : Joined D ds (joint_of ds lp) (Ok e) es) where
+  abbrev ds : List Diamond
+  ds = s.diamonds
+
+  abbrev f : Rule
+  f = plain_rule ds low
+
+  abbrev g : Rule
+  g = plain_rule ds high
+
+  balanced : Balanced (f ⋆ g)
+  balanced = subst Balanced h.rule (whole_balanced D ds (state_well s) k n a)
+
+  short : arity (f ⋆ g) ≤ 20
+  short = subst (λ (x : Rule). arity x ≤ 20) h.rule (whole_short D ds (state_well s) k n a)
+
+  whole : (r : Result Edge Refusal) (es : List Diamond) → Joined D ds (f ⋆ g) r es → Joined D ds (joint_of ds k) r es
+  whole r es = subst (λ (x : Rule). Joined D ds x r es) (sym h.rule)
+
+  low_joined : (r : Result Edge Refusal) (es : List Diamond) → Joined D ds (joint_of ds low.key) r es → Joined D ds f (turned_answer low.negated r) es
+  low_joined r es = joined_turned D ds (state_well s) low.negated h.low_mark (joint_of ds low.key) r es
+
+  -- the low half was refused
+  pub low_refused : (x : Refusal) (es : List Diamond) → Joined D ds (joint_of ds low.key) (Err x) es → Joined D ds (joint_of ds k) (Err x) es
+  low_refused x es j = whole (Err x) es (break_low D ds (state_well s) f g balanced short x es (low_joined (Err x) es j))
+
+  -- the low half was answered, and the state is t
+  module _ (t : State) (same : t.profile ≡ s.profile) {e : Edge} (j : Joined D ds (joint_of ds low.key) (Ok e) t.diamonds) where
+    abbrev es : List Diamond
+    es = t.diamonds
+
+    abbrev low_edge : Edge
+    low_edge = turned low.negated e
+
+    low_there : Joined D ds f (Ok low_edge) es
+    low_there = low_joined (Ok e) es j
+
     well : HeldWell D es
-    well = low_well D ds w k n a i l h al ah p q (turned lm e) es (low_joined (Ok e) es j)
+    well = low_well D ds (state_well s) f g balanced short low_edge es low_there
 
-    grown : Grown (store_of ds) (store_of es)
-    grown = low_grown D ds w k n a i l h al ah p q (turned lm e) es (low_joined (Ok e) es j)
+    lasting : KeyOfArity D es high.key (n - 1) × (joint_of es high.key ≡ joint_of ds high.key)
+    lasting = key_lasts D ds high.key (n - 1) h.high_key es well (low_grown D ds (state_well s) f g balanced short low_edge es low_there)
 
-    pub high_plain : KeyOfArity D es hp (n - 1)
-    high_plain = (key_lasts D ds hp (n - 1) ahp es well grown).0
+    pub high_key : KeyOfArity t.profile.meaning es high.key (n - 1)
+    high_key = subst (λ (p : Profile). KeyOfArity p.meaning es high.key (n - 1)) (sym same) lasting.0
 
-    high_joined : (r : Result Edge Refusal) (xs : List Diamond) → Joined D es (joint_of es hp) r xs → Joined D es (joint_of es h) (turned_answer hm r) xs
+    high_joined : (r : Result Edge Refusal) (xs : List Diamond) → Joined t.profile.meaning es (joint_of es high.key) r xs → Joined D es g (turned_answer high.negated r) xs
     high_joined r xs m =
-        let t : joint_of es h ≡ sign hm (joint_of es hp) =
-        (key_lasts D ds h (n - 1) ah es well grown).1 ∙ rh ∙ ap (sign hm) (sym (key_lasts D ds hp (n - 1) ahp es well grown).1) in
-        subst (λ (f : Rule). Joined D es f (turned_answer hm r) xs) (sym t) (joined_turned D es well hm mh (joint_of es hp) r xs m)
+        subst (λ (x : Rule). Joined D es x (turned_answer high.negated r) xs) (ap (sign high.negated) lasting.1)
+        (joined_turned D es well high.negated h.high_mark (joint_of es high.key) r xs (subst (λ (p : Profile). Joined p.meaning es (joint_of es high.key) r xs) same m))
 
-    pub plain_break_high : (x : Refusal) (xs : List Diamond) → Joined D es (joint_of es hp) (Err x) xs → Joined D ds (joint_of ds k) (Err x) xs
-    plain_break_high x xs m = break_high D ds w k n a i l h al ah p q (turned lm e) es (low_joined (Ok e) es j) x xs (high_joined (Err x) xs m)
+    -- the high half was refused
+    pub high_refused : (x : Refusal) (xs : List Diamond) → Joined t.profile.meaning es (joint_of es high.key) (Err x) xs → Joined D ds (joint_of ds k) (Err x) xs
+    high_refused x xs m = whole (Err x) xs (break_high D ds (state_well s) f g balanced short low_edge es low_there x xs (high_joined (Err x) xs m))
 
-    module _ (d : Edge) (xs : List Diamond) (m : Joined D es (joint_of es hp) (Ok d) xs) where
-      pub plain_fits : HalvesFit D xs (turned lm e) (turned hm d)
-      plain_fits = halves_fit D ds w k n a i l h al ah p q (turned lm e) es (low_joined (Ok e) es j) (turned hm d) xs (high_joined (Ok d) xs m)
+    -- the high half was answered, and the state is u
+    module _ (u : State) (same' : u.profile ≡ t.profile) {d : Edge} (m : Joined t.profile.meaning es (joint_of es high.key) (Ok d) u.diamonds) where
+      abbrev xs : List Diamond
+      xs = u.diamonds
 
-      pub plain_both : (r : Result Edge Refusal) (ys : List Diamond) → ◌≡◌ {A = Outcome} (r, ys) (kept xs (make D (store_of xs) (edge_of (turned lm e)) (edge_of (turned hm d)))) → Joined D ds (joint_of ds k) r ys
-      plain_both r ys o = joined_both D ds w k n a i l h al ah p q (turned lm e) es (low_joined (Ok e) es j) (turned hm d) xs (high_joined (Ok d) xs m) r ys o
+      abbrev high_edge : Edge
+      high_edge = turned high.negated d
+
+      high_there : Joined D es g (Ok high_edge) xs
+      high_there = high_joined (Ok d) xs m
+
+      pub fits : HalvesFit u.profile.meaning xs low_edge high_edge
+      fits =
+          subst (λ (p : Profile). HalvesFit p.meaning xs low_edge high_edge) (sym (same' ∙ same))
+          (halves_fit D ds (state_well s) f g balanced short low_edge es low_there high_edge xs high_there)
+
+      pub made : (r : Result Edge Refusal) (ys : List Diamond) → ◌≡◌ {A = Outcome} (r, ys) (kept xs (make u.profile.meaning (store_of xs) (edge_of low_edge) (edge_of high_edge))) →
+          Joined D ds (joint_of ds k) r ys
+      made r ys o =
+          whole r ys
+          (joined_both D ds (state_well s) f g balanced short low_edge es low_there high_edge xs high_there r ys
+          (o ∙ ap (λ (p : Profile). kept xs (make p.meaning (store_of xs) (edge_of low_edge) (edge_of high_edge))) (same' ∙ same)))
+
+      -- the edge that was made may be remembered
+      pub made_right : (v : State) → v.profile ≡ u.profile → (c : Edge) →
+          ◌≡◌ {A = Outcome} (Ok c, v.diamonds) (kept xs (make u.profile.meaning (store_of xs) (edge_of low_edge) (edge_of high_edge))) → right_for v.profile.meaning v.diamonds k c ≡ true
+      made_right v is c o =
+          let all : v.profile ≡ s.profile = is ∙ same' ∙ same in
+          right_met v.profile.meaning v.diamonds (state_well v) k c
+          (subst (λ (p : Profile). ◌≡◌ {A = Outcome} (combine_step p.meaning v.diamonds k.connective k.left k.right) (Ok c, v.diamonds)) (sym all)
+          (joined_stands D ds (state_well s) k n a c v.diamonds (made (Ok c) v.diamonds o)))

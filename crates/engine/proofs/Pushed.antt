@@ -43,7 +43,7 @@ module _ (D : Meaning) (ds : List Diamond) (w : HeldWell D ds) (d : Diamond) (j 
     where
       go : (b : Bool) → leb 1024 (length ds) ≡ b → ◌≡◌ {A = Option ℕ} (Some k) (cond b None (Some (length ds))) → xs ≡ cond b ds (ds ++ (d ∷ [])) →
           (k < 1024) × ◌≡◌ {A = Outcome} (Ok (edge_record (diamond_edge k)), xs) (kept ds (add (store_of ds) (edge_of d.low) (edge_of d.high)))
-      go true t u v = let z : ◌≡◌ {A = ℕ} 0 1 = cc in absurd (omega arith)
+      go true t u v = absurd cc
       go false t u v =
           let l = leb-false 1024 (length ds) t in
           let m : k ≡ length ds = cc in (
@@ -59,4 +59,4 @@ module _ (D : Meaning) (ds : List Diamond) (w : HeldWell D ds) (d : Diamond) (j 
       go : (b : Bool) → leb 1024 (length ds) ≡ b → ◌≡◌ {A = Option ℕ} None (cond b None (Some (length ds))) → xs ≡ cond b ds (ds ++ (d ∷ [])) →
           ◌≡◌ {A = Outcome} (Err Full, xs) (kept ds (add (store_of ds) (edge_of d.low) (edge_of d.high)))
       go true t u v = ap (λ (ys : List Diamond). (Err Full, ys)) v ∙ sym (add_full D ds d w.normal.1 j (leb-true 1024 (length ds) t) new)
-      go false t u v = let z : ◌≡◌ {A = ℕ} 0 1 = cc in absurd (omega arith)
+      go false t u v = absurd cc

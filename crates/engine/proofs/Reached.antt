@@ -2,7 +2,7 @@
 use Rattle.std.proofs.Common.{◌≡◌, ℕ, zero, suc, ◌<◌, ◌≤◌, Bool, true, false, cond, not, ◌||◌, eqb, ◌⊎◌, List, [], ◌∷◌, ◌++◌, reverse, length, get_or, sym, refl, ap, ◌∙◌, subst, ap₂, inl, inr, not-suc-le-zero, arith}
 use mathlib.Core.List.{reverse-cons}
 use lib.ListN.{length-reverse}
-use Rattle.std.proofs.lemmas.Bool.{or_cases, and_parts, and_from, ne_eqb}
+use Rattle.std.proofs.lemmas.Bool.{or_cases, and_parts, and_from, ne_eqb, both_ways, eq-eqb, eqb-false, eqb-true}
 use Rattle.diagram.specs.declared.meanings.Meaning.{Meaning}
 use Rattle.diagram.specs.Rules.{tally}
 use Rattle.diagram.specs.Edges.{Target, terminal, diamond, Edge, Diamond, Store, rule_of, diamond_at}
@@ -11,15 +11,13 @@ use Rattle.diagram.specs.Acceptance.{Within, Accepted, Normal}
 use Rattle.diagram.specs.Walks.{met, visit, reached, walk}
 use Rattle.diagram.specs.Records.{edge_of, store_of}
 use Rattle.diagram.proofs.Down.{Down, lower_at, normal_lower}
-use Rattle.diagram.proofs.Laws.{eqb_same, eqb_eq}
 use Rattle.diagram.proofs.Notions.{Lower}
 use Rattle.diagram.proofs.Recorded.{alike}
 use Rattle.diagram.proofs.Recording.{normal_of, acceptable_in}
-use Rattle.diagram.proofs.Split.{eqb_less, neqb_ne}
 use Rattle.diagram.proofs.Walk.{Reached, Closed, walked}
 use Rattle.engine.specs.Reaching.{reaches, ReachingStepped, once, WalksMeet}
 use Rattle.basics.specs.Marks.{marked}
-use Rattle.engine.proofs.Swept.{Has, Shut, Sub, clash, has_sub, tally_below, tally_more, marks_at, length_marked, marked_least, marked_has, swept, swept_more, swept_least, swept_shut}
+use Rattle.engine.proofs.Swept.{Has, Shut, Sub, has_sub, tally_below, tally_more, marks_at, length_marked, marked_least, marked_has, swept, swept_more, swept_least, swept_shut}
 
 -- Sets that have, with a diamond, the targets of its edges --
 
@@ -33,7 +31,7 @@ visit_least (n ∷ s) q h (diamond j) i seen b = go (eqb j (length s)) refl (met
     add r x k = at (eqb k j) refl
       where
         at : (c : Bool) → eqb k j ≡ c → cond c true (met r k) ≡ true → q k ≡ true
-        at true e y = ap q (eqb_eq k j e) ∙ i
+        at true e y = ap q (eqb-true k j e) ∙ i
         at false e y = x k y
 
     go : (c : Bool) → eqb j (length s) ≡ c → (m : Bool) → ((t : Target) → Has q t → (seen : List ℕ) → Sub (met seen) q → Sub (met (visit s t seen)) q) →
@@ -41,13 +39,13 @@ visit_least (n ∷ s) q h (diamond j) i seen b = go (eqb j (length s)) refl (met
     go false e m ih = ih (diamond j) i seen b
     go true e true ih = b
     go true e false ih =
-        let x = h.1 (ap q (sym (eqb_eq j (length s) e)) ∙ i) in
+        let x = h.1 (ap q (sym (eqb-true j (length s) e)) ∙ i) in
         add (visit s n.high.target (visit s n.low.target seen)) (ih n.high.target x.1 (visit s n.low.target seen) (ih n.low.target x.0 seen b))
 
 -- nor is anything outside it reached from a target in it
 reaches_least : (s : Store) (q : ℕ → Bool) → Shut s q → (t : Target) → Has q t → Sub (reaches s t) q
-reaches_least [] q h t i k e = clash false e refl
-reaches_least (n ∷ s) q h (terminal c) i k e = clash false e refl
+reaches_least [] q h t i k e = absurd (both_ways false refl e)
+reaches_least (n ∷ s) q h (terminal c) i k e = absurd (both_ways false refl e)
 reaches_least (n ∷ s) q h (diamond j) i k e = go (eqb j (length s)) refl (reaches_least s q h.0) e
   where
     go : (c : Bool) → eqb j (length s) ≡ c → ((t : Target) → Has q t → Sub (reaches s t) q) →
@@ -56,14 +54,14 @@ reaches_least (n ∷ s) q h (diamond j) i k e = go (eqb j (length s)) refl (reac
     go true f ih x = first (or_cases (eqb k j) (reaches s n.low.target k || reaches s n.high.target k) x)
       where
         down : Has q n.low.target × Has q n.high.target
-        down = h.1 (ap q (sym (eqb_eq j (length s) f)) ∙ i)
+        down = h.1 (ap q (sym (eqb-true j (length s) f)) ∙ i)
 
         second : (reaches s n.low.target k ≡ true) ⊎ (reaches s n.high.target k ≡ true) → q k ≡ true
         second (inl y) = ih n.low.target down.0 k y
         second (inr y) = ih n.high.target down.1 k y
 
         first : (eqb k j ≡ true) ⊎ ((reaches s n.low.target k || reaches s n.high.target k) ≡ true) → q k ≡ true
-        first (inl y) = ap q (eqb_eq k j y) ∙ i
+        first (inl y) = ap q (eqb-true k j y) ∙ i
         first (inr y) = second (or_cases (reaches s n.low.target k) (reaches s n.high.target k) y)
 
 -- a walk meets nothing but what is reached
@@ -100,7 +98,7 @@ visit_reaches (n ∷ s) (diamond j) seen k e = go (eqb j (length s)) (met seen j
 
 -- a list of numbers that has, with a diamond, the targets of its edges
 closed_has : (s : Store) (r : List ℕ) → Closed s r → (k : ℕ) → met r k ≡ true → Has (met r) (diamond_at s k).low.target × Has (met r) (diamond_at s k).high.target
-closed_has s [] c k e = clash false e refl
+closed_has s [] c k e = absurd (both_ways false refl e)
 closed_has s (j ∷ r) c k e = go (eqb k j) refl e (closed_has s r c.0 k)
   where
     or_met : (b : Bool) (i : ℕ) → met r i ≡ true → cond b true (met r i) ≡ true
@@ -117,7 +115,7 @@ closed_has s (j ∷ r) c k e = go (eqb k j) refl e (closed_has s r c.0 k)
     go : (b : Bool) → eqb k j ≡ b → cond b true (met r k) ≡ true → (met r k ≡ true → Has (met r) (diamond_at s k).low.target × Has (met r) (diamond_at s k).high.target) →
         Has (met (j ∷ r)) (diamond_at s k).low.target × Has (met (j ∷ r)) (diamond_at s k).high.target
     go true p h ih =
-        subst (λ (i : ℕ). Has (met (j ∷ r)) (diamond_at s i).low.target × Has (met (j ∷ r)) (diamond_at s i).high.target) (sym (eqb_eq k j p))
+        subst (λ (i : ℕ). Has (met (j ∷ r)) (diamond_at s i).low.target × Has (met (j ∷ r)) (diamond_at s i).high.target) (sym (eqb-true k j p))
         (old (diamond_at s j).low.target c.1.low_reached, old (diamond_at s j).high.target c.1.high_reached)
     go false p h ih =
         let x = ih h in
@@ -131,10 +129,10 @@ shut_at (n ∷ s) q h = (
 )
   where
     last : diamond_at (n ∷ s) (length s) ≡ n
-    last = rw (eqb_same (length s))
+    last = rw (eq-eqb (length s) (length s) refl)
 
     earlier : (k : ℕ) → k < length s → diamond_at (n ∷ s) k ≡ diamond_at s k
-    earlier k i = rw (eqb_less k (length s) i)
+    earlier k i = rw (ne_eqb k (length s) (omega (arith, i)))
 
 -- its length is how many there are
 closed_count : (s : Store) (n : ℕ) → length s ≤ n → (r : List ℕ) → Closed s r → tally (met r) n ≡ length r
@@ -169,7 +167,7 @@ module _ (D : Meaning) (law : Lawful D) (s : Store) (ns : Normal D s) (e : Edge)
   reached_reaches k = alike (met (reached s e) k) (reaches s e.target k) (λ h. only (visit_reaches s e.target [] k h)) (reaches_least s (met (reached s e)) shut e.target begun k)
     where
       only : (met [] k ≡ true) ⊎ (reaches s e.target k ≡ true) → reaches s e.target k ≡ true
-      only (inl x) = clash false x refl
+      only (inl x) = absurd (both_ways false refl x)
       only (inr x) = x
 
   pub reached_count : (n : ℕ) → length s ≤ n → tally (met (reached s e)) n ≡ length (walk s e)
@@ -182,8 +180,8 @@ module _ (D : Meaning) (law : Lawful D) (s : Store) (ns : Normal D s) (e : Edge)
       let l = length_marked ms e.target in
       let sh = swept_shut s (normal_lower D s ns) (marked ms e.target) (omega arith) in
       let in-fs : Has (marks_at fs) e.target = has_sub (marks_at (marked ms e.target)) (marks_at fs) (swept_more s (marked ms e.target)) e.target (marked_has ms s e.target a.within h) in
-      let out : Sub (marks_at fs) (met (reached s e)) = swept_least s (met (reached s e)) shut (marked ms e.target) (marked_least ms e.target (met (reached s e)) begun (λ k x. clash (get_or ms k false) x (b k))) in
-      let back : Sub (met (reached s e)) (marks_at fs) = visit_least s (marks_at fs) sh e.target in-fs [] (λ k x. clash false x refl) in
+      let out : Sub (marks_at fs) (met (reached s e)) = swept_least s (met (reached s e)) shut (marked ms e.target) (marked_least ms e.target (met (reached s e)) begun (λ k x. absurd (both_ways (get_or ms k false) (b k) x))) in
+      let back : Sub (met (reached s e)) (marks_at fs) = visit_least s (marks_at fs) sh e.target in-fs [] (λ k x. absurd (both_ways false refl x)) in
       tally_below (marks_at fs) (met (reached s e)) (length ms) (λ k i. alike (marks_at fs k) (met (reached s e) k) (out k) (back k)) ∙ reached_count (length ms) h
 
 -- What the laws say --
@@ -192,7 +190,7 @@ module _ (D : Meaning) (law : Lawful D) (s : Store) (ns : Normal D s) (e : Edge)
 reaches_next : (n : Diamond) (s : Store) (t : Target) (k : ℕ) → Within s t → reaches (n ∷ s) t k ≡ reaches s t k
 reaches_next n [] (terminal b) k w = refl
 reaches_next n (m ∷ s) (terminal b) k w = refl
-reaches_next n s (diamond j) k w = rw (eqb_less j (length s) w)
+reaches_next n s (diamond j) k w = rw (ne_eqb j (length s) (omega (arith, w)))
 
 reaches_step : (s : Store) → Lower s → (j : ℕ) → j < length s → (k : ℕ) →
     reaches s (diamond j) k ≡ (eqb k j || (reaches s (diamond_at s j).low.target k || reaches s (diamond_at s j).high.target k))
@@ -208,7 +206,7 @@ reaches_step (n ∷ s) l j i k = go (eqb j (length s)) refl (λ h. reaches_step 
         ≡ (eqb k j || (reaches (n ∷ s) (cond b n (diamond_at s j)).low.target k || reaches (n ∷ s) (cond b n (diamond_at s j)).high.target k))
     go true e ih = ap (λ (c : Bool). eqb k j || c) (under n l.1)
     go false e ih =
-        let d = neqb_ne j (length s) e in
+        let d = eqb-false j (length s) e in
         let h : j < length s = omega arith in
         ih h ∙ ap (λ (c : Bool). eqb k j || c) (under (diamond_at s j) (lower_at s l.0 j h))
 
@@ -238,9 +236,9 @@ once_push (x ∷ xs) j h o = go (eqb j x) refl h (once_push xs j)
     parts = and_parts (not (met xs x)) (once xs) o
 
     go : (b : Bool) → eqb j x ≡ b → cond b true (met xs j) ≡ false → (met xs j ≡ false → once xs ≡ true → once (xs ++ (j ∷ [])) ≡ true) → once (x ∷ (xs ++ (j ∷ []))) ≡ true
-    go true e f ih = clash true refl f
+    go true e f ih = absurd (both_ways true f refl)
     go false e f ih =
-        let d = neqb_ne j x e in
+        let d = eqb-false j x e in
         let p : met (xs ++ (j ∷ [])) x ≡ met xs x = met_push xs j x ∙ rw (ne_eqb x j (λ q. d (sym q))) in
         and_from (not (met (xs ++ (j ∷ [])) x)) (once (xs ++ (j ∷ []))) (ap not p ∙ parts.0) (ih f parts.1)
 

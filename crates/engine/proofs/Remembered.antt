@@ -44,10 +44,7 @@ asked_step D ds c a b k =
     simp (p, q, r)
 
 never : {A : Type 0} (e : Edge) (x : Refusal) (ds es : List Diamond) → ◌≡◌ {A = Outcome} (Err x, ds) (Ok e, es) → A
-never e x ds es p =
-    let a : Err x ≡ Ok e = ap (λ (o : Outcome). o.0) p in
-    let z : ◌≡◌ {A = ℕ} 0 1 = cc in
-    absurd (omega arith)
+never e x ds es p = let a = ap (λ (o : Outcome). o.0) p in absurd cc
 
 pub step_asked : (D : Meaning) (ds : List Diamond) (c : ℕ) (a b : Edge) (e : Edge) (es : List Diamond) → ◌≡◌ {A = Outcome} (combine_step D ds c a b) (Ok e, es) → Asked D ds c a b
 step_asked D ds c a b e es p = one (leb c 15) refl (accepted_in D ds a && accepted_in D ds b) refl (eqb (arity_in ds a) (arity_in ds b)) refl p
@@ -139,8 +136,8 @@ grown_push ds d = (diamond_of d ∷ [], store_push ds d)
 
 pub rule_told : (f g : Rule) → same_rule f g ≡ true → f ≡ g
 rule_told (constant a) (constant b) h = ap constant (beq_eq a b h)
-rule_told (constant a) (g ⋆ g') h = let z : ◌≡◌ {A = ℕ} 0 1 = cc in absurd (omega arith)
-rule_told (f ⋆ f') (constant b) h = let z : ◌≡◌ {A = ℕ} 0 1 = cc in absurd (omega arith)
+rule_told (constant a) (g ⋆ g') h = absurd cc
+rule_told (f ⋆ f') (constant b) h = absurd cc
 rule_told (f ⋆ f') (g ⋆ g') h =
     let p = and_parts (same_rule f g) (same_rule f' g') h in
     ap₂ ◌⋆◌ (rule_told f g p.0) (rule_told f' g' p.1)
@@ -149,10 +146,6 @@ pub rule_same : (f : Rule) → same_rule f f ≡ true
 rule_same (constant true) = refl
 rule_same (constant false) = refl
 rule_same (f ⋆ g) = and_from (same_rule f f) (same_rule g g) (rule_same f) (rule_same g)
-
--- a key with these parts
-abbrev pub key : ℕ → Edge → Edge → Key
-key c a b = record { connective = c; left = a; right = b }
 
 pub right_met : (D : Meaning) (ds : List Diamond) → HeldWell D ds → (k : Key) (e : Edge) → ◌≡◌ {A = Outcome} (combine_step D ds k.connective k.left k.right) (Ok e, ds) → right_for D ds k e ≡ true
 right_met D ds w k e p =
@@ -186,12 +179,10 @@ right_on D ds es v w g k e p = right_met D es w k e (stands_on D ds es v w g k.c
 -- Tables --
 
 -- nothing stands in an empty table
-pub nothing_stands : (n : ℕ) (k : Key) (e : Edge) → Stands (replicate n None) k e → ⊥
-nothing_stands n k e h =
-    let p = get_d_replicate n h.0 in
-    let q : ◌≡◌ {A = Option Entry} None (Some (record { key = k; edge = e })) = sym p ∙ h.1 in
-    let z : ◌≡◌ {A = ℕ} 0 1 = cc in
-    omega arith
+pub nothing_stands : (n : ℕ) (ps : List (Option Entry)) → ps ≡ replicate n None → (k : Key) (e : Edge) → Stands ps k e → ⊥
+nothing_stands n ps p k e h =
+    let q : ◌≡◌ {A = Option Entry} None (Some (record { key = k; edge = e })) = sym (ap (λ (xs : List (Option Entry)). get_or xs h.0 None) p ∙ get_d_replicate n h.0) ∙ h.1 in
+    cc
   where
     get_d_replicate : (m i : ℕ) → get_or {A = Option Entry} (replicate m None) i None ≡ None
     get_d_replicate zero i = refl

@@ -1,17 +1,18 @@
 -- What an engine's own functions ask of edges and diamonds.
-use Rattle.std.specs.Prelude.{◌≡◌, ℕ, ◌≤◌, Bool, true, false, not, List, length, take, IfOk, None, Result}
+use Rattle.std.specs.Prelude.{◌≡◌, ℕ, ◌-◌, ◌≤◌, Bool, true, false, not, List, length, take, IfOk, None, Result}
 use Rattle.diagram.specs.declared.edges.Edge.{Edge}
 use Rattle.diagram.specs.declared.edges.Diamond.{Diamond}
 use Rattle.diagram.specs.declared.edges.Target.{Target}
 use Rattle.diagram.specs.declared.edges.Target.TheVariants.{Zero, One, Diamond as DiamondNumber}
 use Rattle.diagram.specs.declared.meanings.Meaning.{Meaning}
 use Rattle.diagram.specs.declared.refusals.Refusal.{Refusal}
-use Rattle.diagram.specs.Rules.{Rule, arity}
-use Rattle.diagram.specs.Edges.{Edge as TheoryEdge, Store, rule_of}
-use Rattle.diagram.specs.Making.{choose, low_half, high_half}
+use Rattle.diagram.specs.Rules.{Rule, ◌⋆◌, arity}
+use Rattle.diagram.specs.Edges.{sign, rule_of}
+use Rattle.diagram.specs.Making.{choose}
 use Rattle.diagram.specs.Acceptance.{Accepted}
 use Rattle.cache.specs.declared.entries.Key.{Key}
-use Rattle.engine.specs.Steps.{inserted}
+use Rattle.basics.specs.declared.plain.Plain.{Plain}
+use Rattle.engine.specs.Steps.{inserted, joint}
 use Rattle.diagram.specs.Records.{edge_of, store_of, arity_in, spelled_edge, accepted_in}
 
 -- the edge e is accepted among the diamonds ds, and has n marks
@@ -49,19 +50,23 @@ pub record Joins (D : Meaning) (ds : List Diamond) (d : Diamond) : Type 0 where
   pub unlettered : choose D (edge_of d.low) (edge_of d.high) ≡ None
   pub upright : d.low.negated ≡ false
 
--- the high half of an edge, or its low half
-abbrev pub half_at : Bool → Meaning → Store → TheoryEdge → TheoryEdge
-half_at true D s e = high_half D s e
-half_at false D s e = low_half D s e
-
 -- the value of an edge of no mark: that of its terminal, reversed under a mark
 abbrev pub end_value : Bool → Target → Bool
 end_value n Zero = n
 end_value n One = not n
 end_value n (DiamondNumber k) = n
 
--- the key r is of the high halves of another's edges, or of their low halves
-pub record HalfKey (D : Meaning) (ds : List Diamond) (k : Key) (high : Bool) (r : Key) : Type 0 where
-  pub same : r.connective ≡ k.connective
-  pub left : edge_of r.left ≡ half_at high D (store_of ds) (edge_of k.left)
-  pub right : edge_of r.right ≡ half_at high D (store_of ds) (edge_of k.right)
+-- the rule of a combination, from its plain combination
+abbrev pub plain_rule : List Diamond → Plain → Rule
+plain_rule ds p = sign p.negated (joint ds p.key.connective p.key.left p.key.right)
+
+-- the plain combinations low and high are those of the halves of a combination whose edges have n marks
+pub record Halving (D : Meaning) (ds : List Diamond) (k : Key) (n : ℕ) (low high : Plain) : Type 0 where
+  -- their edges have one mark less
+  pub low_key : KeyOfArity D ds low.key (n - 1)
+  pub high_key : KeyOfArity D ds high.key (n - 1)
+  -- a negation only where the dialect negates
+  pub low_mark : low.negated ≡ true → D.negates ≡ true
+  pub high_mark : high.negated ≡ true → D.negates ≡ true
+  -- the whole rule is that of the low combination, and that of the high one
+  pub rule : joint ds k.connective k.left k.right ≡ plain_rule ds low ⋆ plain_rule ds high

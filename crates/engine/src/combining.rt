@@ -1,17 +1,17 @@
 // Combinations of edges, by halves, through the computed cache.
-ghost use Rattle.std.specs.Prelude.{◌≡◌, ◌-◌, ◌<◌, true, false, length, take, replicate, IfOk, if◌then◌else◌, None, Ok, Err, ◌==◌};
+ghost use Rattle.std.specs.Prelude.{◌≡◌, ◌-◌, ◌<◌, true, false, length, take, replicate, MatchOption, IfOk, if◌then◌else◌, None, Ok, Err, ◌==◌};
 ghost use Rattle.diagram.specs.declared.refusals.Refusal.TheVariants.{NotAccepted};
 ghost use Rattle.diagram.specs.declared.refusals.Refusal.{Refusal};
 ghost use Rattle.diagram.specs.Refusals.{refusal_number};
 ghost use Rattle.diagram.specs.Rules.{negate};
-ghost use Rattle.diagram.specs.Edges.{sign};
 ghost use Rattle.diagram.specs.Records.{accepted_in, other_mark};
 ghost use Rattle.diagram.specs.RecordTheorems.{rule_in, Answered};
 ghost use Rattle.cache.specs.declared.entries.Key.{Key};
 ghost use Rattle.cache.specs.Caches.{Noted};
+ghost use Rattle.cache.specs.Entries.{key};
 ghost use Rattle.engine.specs.Steps.{joint, combine_step, answered, first_answer, negate_step, right_for, given};
 ghost use Rattle.engine.specs.Laws.{HeldWell, MapAfter};
-ghost use Rattle.engine.specs.States.{KeyOfArity, HalfKey, Joined};
+ghost use Rattle.engine.specs.States.{KeyOfArity, Halving, Joined, plain_rule};
 
 use crate::combined::Combined;
 use crate::engines::Engine;
@@ -48,7 +48,7 @@ impl State {
         requires { KeyOfArity self.now.profile.meaning self.now.diamonds key n }
         ensures key { KeyOfArity self.now.profile.meaning self.now.diamonds result.key n }
         ensures mark { result.negated ≡ true → self.now.profile.meaning.negates ≡ true }
-        ensures rule { joint self.now.diamonds key.connective key.left key.right ≡ sign result.negated (joint self.now.diamonds result.key.connective result.key.left result.key.right) }
+        ensures rule { joint self.now.diamonds key.connective key.left key.right ≡ plain_rule self.now.diamonds result }
     {
         if self.negates() {
             Plain::of(key)
@@ -71,18 +71,33 @@ impl State {
         self.diamonds.cut(count);
     }
 
-    // The combination of the low or the high halves of the edges of n marks, n not 0.
-    fn half_key(&self, key: Key, n: u8, high: bool) -> Key
+    // The plain combinations of the low and of the high halves of the edges of n marks, n not 0.
+    fn halved(&self, key: Key, n: u8) -> (Plain, Plain)
         requires key { KeyOfArity self.now.profile.meaning self.now.diamonds key n }
         requires some { 0 < n }
-        ensures key { KeyOfArity self.now.profile.meaning self.now.diamonds result (n - 1) }
-        ensures half { HalfKey self.now.profile.meaning self.now.diamonds key high result }
+        ensures { Halving self.now.profile.meaning self.now.diamonds key n result.0 result.1 }
     {
-        Key {
-            connective: key.connective,
-            left: self.half(key.left, n, high),
-            right: self.half(key.right, n, high),
-        }
+        let (left_low, left_high) = self.halves(key.left, n);
+        let (right_low, right_high) = self.halves(key.right, n);
+        let low = Key {
+            left: left_low,
+            right: right_low,
+            ..key
+        };
+        let high = Key {
+            left: left_high,
+            right: right_high,
+            ..key
+        };
+        (self.plain(low, n - 1), self.plain(high, n - 1))
+    }
+
+    // The edge of a combination that constant, equal or opposite edges of n marks settle; none only where n is not 0.
+    fn settled(&self, key: Key, n: u8) -> Option<Edge>
+        requires { KeyOfArity self.now.profile.meaning self.now.diamonds key n }
+        ensures { MatchOption result (0 < n) (λ e. Joined self.now.profile.meaning self.now.diamonds (joint self.now.diamonds key.connective key.left key.right) (Ok e) self.now.diamonds) }
+    {
+        settled(self.profile.meaning(), key, n)
     }
 }
 
@@ -104,16 +119,13 @@ impl<C: Cache + Drop> Engine<C> {
         ensures profile { self.new.state.profile ≡ self.old.state.profile }
         ensures long { length self.new.state.table ≡ length self.old.state.table }
     {
-        if let Some(edge) = settled(self.state.profile.meaning(), key, n) {
+        if let Some(edge) = self.state.settled(key, n) {
             return Ok(edge);
         }
         if let Some(edge) = self.cache.find(&self.state.table, key) {
             return Ok(edge);
         }
-        let low_key = self.state.half_key(key, n, false);
-        let high_key = self.state.half_key(key, n, true);
-        let low_plain = self.state.plain(low_key, n - 1);
-        let high_plain = self.state.plain(high_key, n - 1);
+        let (low_plain, high_plain) = self.state.halved(key, n);
         let low = self.join(low_plain.key, n - 1)?;
         let high = self.join(high_plain.key, n - 1)?;
         let edge = self
@@ -137,14 +149,14 @@ impl<C: Cache + Drop> Engine<C> {
 
     // The connective of two edges, and whether the cache found it: the bits of worth 1, 2, 4 and 8 of the connective's number are its values at (0,0), (0,1), (1,0) and (1,1).
     pub fn combine(&mut self, connective: u32, a: Edge, b: Edge) -> Result<Combined, Refusal>
-        ensures answer { result ≡ answered (given (C.Cache.held self.old.cache self.old.state.table (record { connective = connective; left = a; right = b }))) (combine_step self.old.state.profile.meaning self.old.state.diamonds connective a b).0 }
+        ensures answer { result ≡ answered (given (C.Cache.held self.old.cache self.old.state.table (key connective a b))) (combine_step self.old.state.profile.meaning self.old.state.diamonds connective a b).0 }
         ensures diamonds { self.new.state.diamonds ≡ (combine_step self.old.state.profile.meaning self.old.state.diamonds connective a b).1 }
         ensures right { IfOk result (λ x. Answered self.old.state.profile.meaning self.old.state.diamonds (joint self.old.state.diamonds connective a b) self.new.state.diamonds x.edge) }
         ensures profile { self.new.state.profile ≡ self.old.state.profile }
         ensures long { length self.new.state.table ≡ length self.old.state.table }
-        ensures found { given (C.Cache.held self.old.cache self.old.state.table (record { connective = connective; left = a; right = b })) ≡ true → (self.new.state.diamonds ≡ self.old.state.diamonds) × (self.new.state.table ≡ self.old.state.table) }
+        ensures found { given (C.Cache.held self.old.cache self.old.state.table (key connective a b)) ≡ true → (self.new.state.diamonds ≡ self.old.state.diamonds) × (self.new.state.table ≡ self.old.state.table) }
         ensures still { (x : Refusal) → result ≡ Err x → (refusal_number x == 7) ≡ false → (self.new.cache ≡ self.old.cache) × (self.new.state.table ≡ self.old.state.table) }
-        ensures map { MapAfter C.Cache.KEEPS self.old.state.profile.meaning self.new.state.diamonds (record { connective = connective; left = a; right = b }) (combine_step self.old.state.profile.meaning self.old.state.diamonds connective a b).0 (C.Cache.held self.old.cache self.old.state.table) (C.Cache.held self.new.cache self.new.state.table) }
+        ensures map { MapAfter C.Cache.KEEPS self.old.state.profile.meaning self.new.state.diamonds (key connective a b) (combine_step self.old.state.profile.meaning self.old.state.diamonds connective a b).0 (C.Cache.held self.old.cache self.old.state.table) (C.Cache.held self.new.cache self.new.state.table) }
     {
         let connective = checked_connective(connective)?;
         let n = self.state.checked_pair(a, b)?;
@@ -153,6 +165,7 @@ impl<C: Cache + Drop> Engine<C> {
             return Ok(Combined { edge, found: true });
         }
         let count = self.state.diamonds.len();
+        // both cases do something of their own, so no `?`
         match self.join(key, n) {
             Ok(edge) => {
                 self.note(key, edge);
@@ -172,16 +185,16 @@ impl<C: Cache + Drop> Engine<C> {
         a: Edge,
         b: Edge,
     ) -> Result<(Combined, Combined), Refusal>
-        ensures answer { first_answer result ≡ answered (given (C.Cache.held self.old.cache self.old.state.table (record { connective = connective; left = a; right = b }))) (combine_step self.old.state.profile.meaning self.old.state.diamonds connective a b).0 }
+        ensures answer { first_answer result ≡ answered (given (C.Cache.held self.old.cache self.old.state.table (key connective a b))) (combine_step self.old.state.profile.meaning self.old.state.diamonds connective a b).0 }
         ensures same { IfOk result (λ p. p.1.edge ≡ p.0.edge) }
         ensures again { C.Cache.KEEPS ≡ true → IfOk result (λ p. p.1.found ≡ true) }
         ensures after { IfOk result (λ p. p.0.found ≡ true → p.1.found ≡ true) }
-        ensures gives { IfOk result (λ p. p.1.found ≡ true → given (C.Cache.held self.new.cache self.new.state.table (record { connective = connective; left = a; right = b })) ≡ true) }
+        ensures gives { IfOk result (λ p. p.1.found ≡ true → given (C.Cache.held self.new.cache self.new.state.table (key connective a b)) ≡ true) }
         ensures diamonds { self.new.state.diamonds ≡ (combine_step self.old.state.profile.meaning self.old.state.diamonds connective a b).1 }
         ensures profile { self.new.state.profile ≡ self.old.state.profile }
         ensures long { length self.new.state.table ≡ length self.old.state.table }
         ensures still { (x : Refusal) → result ≡ Err x → (refusal_number x == 7) ≡ false → (self.new.cache ≡ self.old.cache) × (self.new.state.table ≡ self.old.state.table) }
-        ensures map { MapAfter C.Cache.KEEPS self.old.state.profile.meaning self.new.state.diamonds (record { connective = connective; left = a; right = b }) (combine_step self.old.state.profile.meaning self.old.state.diamonds connective a b).0 (C.Cache.held self.old.cache self.old.state.table) (C.Cache.held self.new.cache self.new.state.table) }
+        ensures map { MapAfter C.Cache.KEEPS self.old.state.profile.meaning self.new.state.diamonds (key connective a b) (combine_step self.old.state.profile.meaning self.old.state.diamonds connective a b).0 (C.Cache.held self.old.cache self.old.state.table) (C.Cache.held self.new.cache self.new.state.table) }
     {
         let first = self.combine(connective, a, b)?;
         let second = self.combine(connective, a, b)?;
@@ -198,7 +211,7 @@ impl<C: Cache + Drop> Engine<C> {
         ensures long { length self.new.state.table ≡ length self.old.state.table }
         ensures alone { self.old.state.profile.meaning.negates ≡ true → (self.new.state.diamonds ≡ self.old.state.diamonds) × (self.new.cache ≡ self.old.cache) × (self.new.state.table ≡ self.old.state.table) }
         ensures still { (x : Refusal) → result ≡ Err x → (refusal_number x == 7) ≡ false → (self.new.cache ≡ self.old.cache) × (self.new.state.table ≡ self.old.state.table) }
-        ensures map { self.old.state.profile.meaning.negates ≡ false → MapAfter C.Cache.KEEPS self.old.state.profile.meaning self.new.state.diamonds (record { connective = 3; left = edge; right = edge }) (negate_step self.old.state.profile.meaning self.old.state.diamonds edge).0 (C.Cache.held self.old.cache self.old.state.table) (C.Cache.held self.new.cache self.new.state.table) }
+        ensures map { self.old.state.profile.meaning.negates ≡ false → MapAfter C.Cache.KEEPS self.old.state.profile.meaning self.new.state.diamonds (key 3 edge edge) (negate_step self.old.state.profile.meaning self.old.state.diamonds edge).0 (C.Cache.held self.old.cache self.old.state.table) (C.Cache.held self.new.cache self.new.state.table) }
     {
         if self.state.negates() {
             return self.state.opposite(edge);

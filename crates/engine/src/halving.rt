@@ -1,15 +1,16 @@
-// The halves of an edge, and its values.
+// The halves of an edge, and its values. What is true of an edge among a state's diamonds is a `requires`: a struct with a reference to the state would have to say in each clause at which moment the state is meant.
 ghost use Rattle.std.specs.Prelude.{◌≡◌, ◌-◌, ◌%◌, ◌<◌, true, if◌then◌else◌, ◌==◌};
 ghost use Rattle.diagram.specs.Rules.{value};
 ghost use Rattle.diagram.specs.Edges.{rule_of};
-ghost use Rattle.diagram.specs.Making.{low_upright, high_upright};
+ghost use Rattle.diagram.specs.Making.{low_upright, high_upright, low_half, high_half};
 ghost use Rattle.diagram.specs.Records.{edge_of, store_of, spelled_edge};
-ghost use Rattle.engine.specs.States.{EdgeOfArity, half_at, end_value};
+ghost use Rattle.engine.specs.States.{EdgeOfArity, end_value};
 
 use crate::states::State;
+use basics::plain::turned;
 use diagram::edges::{Edge, Target};
 
-// The high one of two halves, or the low one.
+// The high one of two halves, or the low one, as the first mark of an assignment has it.
 fn pick(halves: (Edge, Edge), high: bool) -> Edge
     ensures { result ≡ (if high then halves.1 else halves.0) }
 {
@@ -54,15 +55,16 @@ impl State {
         }
     }
 
-    // The low or the high half of an edge of n marks, n not 0.
-    pub(crate) fn half(&self, edge: Edge, n: u8, high: bool) -> Edge
+    // The two halves of an edge of n marks, n not 0.
+    pub(crate) fn halves(&self, edge: Edge, n: u8) -> (Edge, Edge)
         requires edge { EdgeOfArity self.now.profile.meaning self.now.diamonds edge n }
         requires some { 0 < n }
-        ensures edge { EdgeOfArity self.now.profile.meaning self.now.diamonds result (n - 1) }
-        ensures half { edge_of result ≡ half_at high self.now.profile.meaning (store_of self.now.diamonds) (edge_of edge) }
+        ensures edges { EdgeOfArity self.now.profile.meaning self.now.diamonds result.0 (n - 1) × EdgeOfArity self.now.profile.meaning self.now.diamonds result.1 (n - 1) }
+        ensures low { edge_of result.0 ≡ low_half self.now.profile.meaning (store_of self.now.diamonds) (edge_of edge) }
+        ensures high { edge_of result.1 ≡ high_half self.now.profile.meaning (store_of self.now.diamonds) (edge_of edge) }
     {
-        let half = pick(self.upright_halves(edge, n), high);
-        if edge.negated { half.flip() } else { half }
+        let (low, high) = self.upright_halves(edge, n);
+        (turned(low, edge.negated), turned(high, edge.negated))
     }
 
     // The value of an edge of n marks at an assignment.
@@ -73,7 +75,7 @@ impl State {
         if n == 0 {
             return end_value(edge);
         }
-        let half = self.half(edge, n, first_mark(assignment));
+        let half = pick(self.halves(edge, n), first_mark(assignment));
         self.value(half, n - 1, assignment / 2)
     }
 }

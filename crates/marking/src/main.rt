@@ -6,7 +6,7 @@ use cache::caches::Cache;
 use cache::slot::Slot;
 use diagram::edges::{Edge, Target, Word};
 use diagram::refusals::Refusal;
-use dialect::builtin::{Dialect1, Dialect2, Dialect3, Dialect4, Dialect5};
+use dialect::builtin::{Dialect3, Dialect5, built_in};
 use dialect::profiles::Profile;
 use engine::engines::Engine;
 use std::fmt::Display;
@@ -30,16 +30,8 @@ fn mark_all(rt: &(impl Print + AllocGlobal)) -> anyhow::Result<()> {
     Marker::new(rt, Profile::of::<Dialect5>(), Slot)?.mark_refusals()
 }
 
-// The dialects, and how many diamonds *a and c, or not a and b* takes in each.
-fn counts() -> [(Profile, usize); 5] {
-    [
-        (Profile::of::<Dialect1>(), 3),
-        (Profile::of::<Dialect2>(), 3),
-        (Profile::of::<Dialect3>(), 3),
-        (Profile::of::<Dialect4>(), 1),
-        (Profile::of::<Dialect5>(), 1),
-    ]
-}
+// How many diamonds *a and c, or not a and b* takes in each of the built-in dialects.
+const COUNTS: [usize; 5] = [3, 3, 3, 1, 1];
 
 // Marks what an engine with this cache answers.
 fn mark_with<C: Cache + Copy>(
@@ -51,7 +43,7 @@ fn mark_with<C: Cache + Copy>(
     Marker::new(rt, Profile::of::<Dialect5>(), cache)?.mark_marks()?;
     Marker::new(rt, Profile::of::<Dialect5>(), cache)?.mark_connectives()?;
     Marker::new(rt, Profile::of::<Dialect3>(), cache)?.mark_not()?;
-    for (profile, expected) in counts() {
+    for (profile, expected) in built_in().into_iter().zip(COUNTS) {
         Marker::new(rt, profile, cache)?.mark_chosen(expected)?;
     }
     Ok(())

@@ -22,10 +22,7 @@ fn main(rt: HostRuntime) -> anyhow::Result<()> {
 fn build_all(rt: &(impl Print + AllocGlobal)) -> anyhow::Result<()> {
     build_in_both(rt, "x0 x1 or x2 x3 or .. or x18 x19", pairs)?;
     build_in_both(rt, "x0 xor x1 xor .. xor x19", parity)?;
-    build_too_many(
-        rt,
-        Engine::new(rt.alloc(), Profile::of::<Dialect5>(), Slot)?,
-    )
+    Printer::new(rt, Profile::of::<Dialect5>())?.build_too_many()
 }
 
 // Builds a rule in new engines of dialects 1 and 5, and prints it.
@@ -37,25 +34,10 @@ fn build_in_both<F: Fn(&mut Engine<Slot>) -> Result<Edge, Refusal>>(
     requires { F.IsAlwaysCallable build }
 {
     for profile in [Profile::of::<Dialect1>(), Profile::of::<Dialect5>()] {
-        let mut engine = Engine::new(rt.alloc(), profile, Slot)?;
-        let rule = build(&mut engine)?;
-        print_rule(rt, &engine, name, rule)?;
+        let mut printer = Printer::new(rt, profile)?;
+        let rule = build(&mut printer.engine)?;
+        printer.print_rule(name, rule)?;
     }
-    Ok(())
-}
-
-// Prints a rule's edge, ones and diamonds, and how many diamonds the engine holds.
-fn print_rule(
-    rt: &impl Print,
-    engine: &Engine<Slot>,
-    name: &str,
-    edge: Edge,
-) -> anyhow::Result<()> {
-    let code = engine.profile().meaning().code;
-    let ones = engine.ones(edge)?;
-    let diamonds = engine.diamonds_of(edge)?;
-    let held = engine.diamonds().len();
-    println!(rt; "dialect {code}, {name}: {edge}, ones {ones}, {diamonds} diamonds, {held} held")?;
     Ok(())
 }
 
@@ -86,21 +68,48 @@ fn parity(engine: &mut Engine<Slot>) -> Result<Edge, Refusal> {
     Ok(rule)
 }
 
-// Marks 0 and 10, xor marks 1 and 11, and so on: each further pair takes twice as many diamonds and two more, until there is no room.
-fn build_too_many(rt: &impl Print, mut engine: Engine<Slot>) -> anyhow::Result<()> {
-    let mut rule = engine.constant(20, false)?;
-    for i in 0..10 {
-        let both = pair(&mut engine, i, i + 10)?;
-        let answer = engine.combine(XOR, rule, both);
-        let held = engine.diamonds().len();
-        match answer {
-            Ok(combined) => {
-                rule = combined.edge;
-                let diamonds = engine.diamonds_of(rule)?;
-                println!(rt; "pairs 0 to {i}: {diamonds} diamonds, {held} held")?;
-            }
-            Err(refusal) => println!(rt; "pairs 0 to {i}: {refusal}, {held} held")?,
-        }
+// An engine in which rules are built, and where they are printed.
+#[derive(Drop)]
+struct Printer<'a, R> {
+    rt: &'a R,
+    engine: Engine<Slot>,
+}
+
+impl<'a, R: Print + AllocGlobal> Printer<'a, R> {
+    // A printer of a new engine.
+    fn new(rt: &'a R, profile: Profile) -> anyhow::Result<Self> {
+        let engine = Engine::new(rt.alloc(), profile, Slot)?;
+        Ok(Printer { rt, engine })
     }
-    Ok(())
+
+    // Prints a rule's edge, ones and diamonds, and how many diamonds the engine holds.
+    fn print_rule(&self, name: &str, edge: Edge) -> anyhow::Result<()> {
+        let code = self.engine.profile().meaning().code;
+        let ones = self.engine.ones(edge)?;
+        let diamonds = self.engine.diamonds_of(edge)?;
+        let held = self.engine.diamonds().len();
+        println!(self.rt;
+            "dialect {code}, {name}: {edge}, ones {ones}, {diamonds} diamonds, {held} held"
+        )?;
+        Ok(())
+    }
+
+    // Marks 0 and 10, xor marks 1 and 11, and so on: each further pair takes twice as many diamonds and two more, until there is no room.
+    fn build_too_many(mut self) -> anyhow::Result<()> {
+        let mut rule = self.engine.constant(20, false)?;
+        for i in 0..10 {
+            let both = pair(&mut self.engine, i, i + 10)?;
+            let answer = self.engine.combine(XOR, rule, both);
+            let held = self.engine.diamonds().len();
+            match answer {
+                Ok(combined) => {
+                    rule = combined.edge;
+                    let diamonds = self.engine.diamonds_of(rule)?;
+                    println!(self.rt; "pairs 0 to {i}: {diamonds} diamonds, {held} held")?;
+                }
+                Err(refusal) => println!(self.rt; "pairs 0 to {i}: {refusal}, {held} held")?,
+            }
+        }
+        Ok(())
+    }
 }

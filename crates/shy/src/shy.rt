@@ -1,6 +1,6 @@
 // A cache that may hide what it noted.
-ghost use Rattle.std.specs.Prelude.{◌≡◌, false, length};
-ghost use Rattle.shy.specs.Shy.{key_lengths, shy_place, shy_held};
+ghost use Rattle.std.specs.Prelude.{◌≡◌, false, ◌||◌, length, ◌==◌};
+ghost use Rattle.shy.specs.Shy.{shy_place, shy_held};
 ghost use Rattle.cache.specs.Placing.{given_at, given_stands};
 ghost use Rattle.shy.specs.Hidden.{shown};
 ghost use Rattle.std.proofs.Common.{rules};
@@ -14,6 +14,7 @@ use diagram::edges::Edge;
 #[derive(Drop)]
 pub struct Shy {
     closer: u8,
+    // a flag, since `closer` is needed in both states
     shut: bool,
 }
 
@@ -36,6 +37,13 @@ impl Shy {
             shut: false,
         }
     }
+
+    // Whether the cache is shut once a key of this connective is noted.
+    fn shut_after(&self, connective: u8) -> bool
+        ensures { result ≡ (self.now.shut || connective == self.now.closer) }
+    {
+        self.shut || connective == self.closer
+    }
 }
 
 impl Cache for Shy {
@@ -47,7 +55,7 @@ impl Cache for Shy {
 
     ghost held = { λ c t k. shy_held c t k };
 
-    ghost honest = { λ c t k e h. given_stands key_lengths t k e (shown c.shut (given_at key_lengths t k) e h) };
+    ghost honest = { λ c t k e h. given_stands shy_place t k e (shown c.shut (given_at shy_place t k) e h) };
 
     ghost roomy = { Prim.search rules };
 
@@ -64,7 +72,7 @@ impl Cache for Shy {
     }
 
     fn note(&mut self, table: &mut Table, key: Key, edge: Edge) {
-        self.shut |= key.connective == self.closer;
+        self.shut = self.shut_after(key.connective);
         let place = shy_place(table, key);
         table.note_at(place, key, edge);
     }

@@ -1,5 +1,6 @@
 -- Numbers in a map, and what becomes of them with one diamond more.
-use Rattle.std.proofs.Common.{◌≡◌, ℕ, ◌+◌, ◌≤◌, Bool, true, false, cond, List, [], ◌∷◌, ◌++◌, length, Some, Option, ◌&&◌, sym, refl, ap, ◌∙◌, ap₂, arith}
+use Rattle.std.proofs.Common.{◌≡◌, ℕ, ◌+◌, ◌≤◌, Bool, cond, List, [], ◌∷◌, ◌++◌, length, Some, Option, ◌&&◌, sym, refl, ap, ◌∙◌, ap₂, arith}
+use Rattle.std.proofs.Math.Bool.{and_assoc}
 use Rattle.std.specs.Prelude.{◌==◌}
 use lib.ListN.{length-reverse}
 use Rattle.std.proofs.lemmas.List.{reverse-append, length_push}
@@ -27,14 +28,10 @@ target_eq (DiamondNumber j) Zero = refl
 target_eq (DiamondNumber j) One = refl
 target_eq (DiamondNumber j) (DiamondNumber k) = refl
 
-grouped : (p q r : Bool) → ((p && q) && r) ≡ (p && (q && r))
-grouped true q r = refl
-grouped false q r = refl
-
 edge_eq : (a b : Edge) → edge.ghosts.eq a b ≡ same_record a b
 edge_eq a b =
     ap (λ (t : Bool). beq a.negated b.negated && ((a.word.length == b.word.length && a.word.digits == b.word.digits) && t)) (target_eq a.target b.target)
-    ∙ ap (λ (t : Bool). beq a.negated b.negated && t) (grouped (a.word.length == b.word.length) (a.word.digits == b.word.digits) (same_target_record a.target b.target))
+    ∙ ap (λ (t : Bool). beq a.negated b.negated && t) (and_assoc (a.word.length == b.word.length) (a.word.digits == b.word.digits) (same_target_record a.target b.target))
 
 same_eq : (a b : Diamond) → diamond.ghosts.eq a b ≡ same_diamond_record a b
 same_eq a b = ap₂ ◌&&◌ (edge_eq a.low b.low) (edge_eq a.high b.high)

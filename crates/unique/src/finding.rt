@@ -45,6 +45,7 @@ impl UniqueTable {
     pub fn law(&self)
         ensures { length self.now ≤ 1024 }
     {
+        // a look at a field brings in what is true of every table
         let _ = &self.diamonds;
     }
 }

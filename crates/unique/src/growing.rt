@@ -9,13 +9,14 @@ use crate::tables::UniqueTable;
 use diagram::edges::Diamond;
 use std::collections::HashMap;
 
-// Notes the number of a diamond, the last one that stands; a map with room for 1,024 does not want memory for it.
+// Notes the number of a diamond, over that of an equal one, if there is one; in a map with room for 1,024 it wants no memory.
 fn note(numbers: &mut HashMap<Diamond, u16>, diamond: Diamond, k: u16)
     requires few { hash_map_len numbers.old < 1024 }
     requires spare { 1024 ≤ hash_map_len numbers.old + spare numbers.old }
     ensures numbering { (ds : List Diamond) → length ds ≡ k → IsNumbering numbers.old ds → IsNumbering numbers.new (ds ++ (diamond ∷ [])) }
     ensures spare { 1024 ≤ hash_map_len numbers.new + spare numbers.new }
 {
+    // `insert` alone could use up room for a diamond that is there.
     match numbers.get_mut(&diamond) {
         Some(number) => *number = k,
         None => {

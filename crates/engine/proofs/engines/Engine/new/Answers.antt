@@ -1,7 +1,5 @@
-use Rattle.std.proofs.Common.{◌≡◌, List, length, None, Option, refl, ap, ◌∙◌, subst, arith, rules}
+use Rattle.std.proofs.Common.{◌≡◌, length, None, ap, ◌∙◌, arith, rules}
 use lib.ListN.{length-replicate}
-use Rattle.cache.specs.declared.entries.Entry.{Entry}
-use Rattle.cache.specs.Tables.{Stands}
 use Rattle.engine.proofs.Remembered.{nothing_stands}
 use Rattle.engine.proofs.engines.Engine.new.Goals as goal
 
@@ -17,12 +15,5 @@ invariant_of-state g c =
       low = search rules;
       few = search rules;
       wide = omega arith;
-      right = λ k e h. absurd (nothing_stands (length t) k e (subst (λ (ps : List (Option Entry)). Stands ps k e) c.forget.ensures.empty h));
+      right = λ k e h. absurd (nothing_stands (length t) c.forget.new.table c.forget.ensures.empty k e h);
     }
-
-pub returns : goal.returns
-returns g c =
-    let t = c.in_ok-table.table in
-    let l : length c.forget.new.table ≡ length t = ap length c.forget.ensures.empty ∙ length-replicate (length t) None in
-    let m : length t ≡ g.C.Cache.wants c.args.cache = ap length c.in_ok-table.ensures ∙ length-replicate c.places.result None ∙ c.places.ensures in
-    (search rules, refl, l ∙ m, c.forget.ensures.none)

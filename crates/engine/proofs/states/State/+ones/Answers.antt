@@ -1,4 +1,4 @@
-use Rattle.std.proofs.Common.{◌≡◌, ℕ, ◌+◌, ◌-◌, ◌^◌, ◌<◌, ◌≤◌, Bool, true, false, cond, List, Some, None, sym, ap, ◌∙◌, subst, ap₂, arith}
+use Rattle.std.proofs.Common.{◌≡◌, ℕ, ◌+◌, ◌-◌, ◌^◌, ◌<◌, ◌≤◌, true, false, cond, List, Some, None, sym, ap, ◌∙◌, subst, ap₂, arith}
 use Rattle.diagram.specs.declared.edges.Diamond.{Diamond}
 use Rattle.diagram.specs.declared.edges.Edge.{Edge}
 use Rattle.diagram.specs.Rules.{ones}
@@ -7,7 +7,7 @@ use Rattle.diagram.specs.Dialects.{Lawful}
 use Rattle.diagram.specs.Records.{edge_of, store_of, constant_of, same_record}
 use Rattle.diagram.proofs.Tests.{tested}
 use Rattle.engine.specs.declared.states.State.{State}
-use Rattle.engine.specs.States.{EdgeOfArity, half_at}
+use Rattle.engine.specs.States.{EdgeOfArity}
 use Rattle.basics.specs.Plain.{unmarked}
 use Rattle.engine.proofs.Tallied.{marks_few, ones_constant, mixed_some, unmarked_fit, ones_same, both_most, both_marked, both_opposite}
 use Rattle.engine.proofs.states.State.+ones.Goals as goal
@@ -28,10 +28,6 @@ some_marks s e n a k =
     let ds = held s in
     (mixed_some D (law s) ds s.proper e n a k, marks_few D (law s) ds s.proper e n a, unmarked_fit D (law s) ds s.proper e n a)
 
-half_of : (s : State) (b : Bool) (e u r : Edge) → edge_of r ≡ half_at b s.profile.meaning (store_of (held s)) (edge_of u) → u ≡ unmarked e →
-    edge_of r ≡ half_at b s.profile.meaning (store_of (held s)) (edge_of (unmarked e))
-half_of s b e u r h p = h ∙ ap (λ (x : Edge). half_at b s.profile.meaning (store_of (held s)) (edge_of x)) p
-
 pub returns-in-Some-false : goal.returns-in-Some-false
 returns-in-Some-false t c =
     let s = c.args.self.now in
@@ -48,14 +44,8 @@ returns-in-Some-true t c =
     c.assignments.ensures
     ∙ sym (ones_constant s.profile.meaning (law s) (held s) s.proper c.args.edge c.args.n c.requires true (sym c.in-Some-true.ensures ∙ ap Some c.in-Some-true.field-0-test))
 
-pub half-low-requires : goal.half-low-requires
-half-low-requires t c =
-    let s = c.args.self.now in
-    let m = some_marks s c.args.edge c.args.n c.requires (sym c.in-None.ensures) in
-    record { edge = subst (λ (x : Edge). EdgeOfArity s.profile.meaning (held s) x c.args.n) (sym c.unmarked-upright.ensures) m.2; some = m.0 }
-
-pub half-high-requires : goal.half-high-requires
-half-high-requires t c =
+pub halves-requires : goal.halves-requires
+halves-requires t c =
     let s = c.args.self.now in
     let m = some_marks s c.args.edge c.args.n c.requires (sym c.in-None.ensures) in
     record { edge = subst (λ (x : Edge). EdgeOfArity s.profile.meaning (held s) x c.args.n) (sym c.unmarked-upright.ensures) m.2; some = m.0 }
@@ -72,10 +62,9 @@ pub returns-then-same : goal.returns-then-same
 returns-then-same t c =
     let s = c.args.self.now in
     c.assignments-then-same.ensures
-    ∙ both_opposite s.profile.meaning (law s) (held s) s.proper c.args.edge c.args.n c.requires (sym c.in-None.ensures) c.half-low.result c.half-high.result
-    (half_of s false c.args.edge c.unmarked-upright.result c.half-low.result c.half-low.ensures.half c.unmarked-upright.ensures)
-    (half_of s true c.args.edge c.unmarked-upright.result c.half-high.result c.half-high.ensures.half c.unmarked-upright.ensures)
-    c.half-low.ensures.edge (ap (same_record c.half-low.result) (sym c.flip.ensures) ∙ sym c.if-same.ensures)
+    ∙ both_opposite s.profile.meaning (law s) (held s) s.proper c.args.edge c.args.n c.requires (sym c.in-None.ensures) c.unmarked-upright.result c.unmarked-upright.ensures c.halves.result.0 c.halves.result.1
+    c.halves.ensures.low c.halves.ensures.high
+    c.halves.ensures.edges.0 (ap (same_record c.halves.result.0) (sym c.flip.ensures) ∙ sym c.if-same.ensures)
 
 pub overflow_sub-n-2 : goal.overflow_sub-n-2
 overflow_sub-n-2 t c = (some_marks c.args.self.now c.args.edge c.args.n c.requires (sym c.in-None.ensures)).0
@@ -84,7 +73,7 @@ pub ones-of_low-requires : goal.ones-of_low-requires
 ones-of_low-requires t c =
     let p = (some_marks c.args.self.now c.args.edge c.args.n c.requires (sym c.in-None.ensures)).0 in
     let m = c.decreases in
-    (omega arith, c.half-low.ensures.edge)
+    (omega arith, c.halves.ensures.edges.0)
 
 pub overflow_sub-n-else-same-2 : goal.overflow_sub-n-else-same-2
 overflow_sub-n-else-same-2 t c = (some_marks c.args.self.now c.args.edge c.args.n c.requires (sym c.in-None.ensures)).0
@@ -93,21 +82,20 @@ pub ones-of_high-requires : goal.ones-of_high-requires
 ones-of_high-requires t c =
     let p = (some_marks c.args.self.now c.args.edge c.args.n c.requires (sym c.in-None.ensures)).0 in
     let m = c.decreases in
-    (omega arith, c.half-high.ensures.edge)
+    (omega arith, c.halves.ensures.edges.1)
 
 pub of_halves-requires : goal.of_halves-requires
 of_halves-requires t c =
     let s = c.args.self.now in
     let D = s.profile.meaning in
     let ds = held s in
-    let of_high : c.if-same-2.of_high ≡ ones (rule_of (store_of ds) (edge_of c.half-high.result)) =
+    let of_high : c.if-same-2.of_high ≡ ones (rule_of (store_of ds) (edge_of c.halves.result.1)) =
     elim c.if-same-2.branch [
-      | then-same-2 w ↦ w.of_high-is ∙ c.ones-of_low.ensures ∙ ones_same ds c.half-low.result c.half-high.result (sym w.if-same-2.ensures)
+      | then-same-2 w ↦ w.of_high-is ∙ c.ones-of_low.ensures ∙ ones_same ds c.halves.result.0 c.halves.result.1 (sym w.if-same-2.ensures)
       | else-same-2 w ↦ w.of_high-is ∙ w.ones-of_high.ensures
     ] in
-    let p = both_most D (law s) ds s.proper c.args.edge c.args.n c.requires (sym c.in-None.ensures) c.half-low.result c.half-high.result
-    (half_of s false c.args.edge c.unmarked-upright.result c.half-low.result c.half-low.ensures.half c.unmarked-upright.ensures)
-    (half_of s true c.args.edge c.unmarked-upright.result c.half-high.result c.half-high.ensures.half c.unmarked-upright.ensures) in
+    let p = both_most D (law s) ds s.proper c.args.edge c.args.n c.requires (sym c.in-None.ensures) c.unmarked-upright.result c.unmarked-upright.ensures c.halves.result.0 c.halves.result.1
+    c.halves.ensures.low c.halves.ensures.high in
     record { short = marks_few D (law s) ds s.proper c.args.edge c.args.n c.requires; most = omega (arith, p.0, of_high, c.ones-of_low.ensures); few = omega (arith, p.1, of_high, c.ones-of_low.ensures) }
 
 pub returns : goal.returns
@@ -115,13 +103,12 @@ returns t c =
     let s = c.args.self.now in
     let D = s.profile.meaning in
     let ds = held s in
-    let of_high : c.if-same-2.of_high ≡ ones (rule_of (store_of ds) (edge_of c.half-high.result)) =
+    let of_high : c.if-same-2.of_high ≡ ones (rule_of (store_of ds) (edge_of c.halves.result.1)) =
     elim c.if-same-2.branch [
-      | then-same-2 w ↦ w.of_high-is ∙ c.ones-of_low.ensures ∙ ones_same ds c.half-low.result c.half-high.result (sym w.if-same-2.ensures)
+      | then-same-2 w ↦ w.of_high-is ∙ c.ones-of_low.ensures ∙ ones_same ds c.halves.result.0 c.halves.result.1 (sym w.if-same-2.ensures)
       | else-same-2 w ↦ w.of_high-is ∙ w.ones-of_high.ensures
     ] in
     c.of_halves.ensures
     ∙ ap₂ (λ (x y : ℕ). cond c.args.edge.negated (2 ^ c.args.n - (x + y)) (x + y)) c.ones-of_low.ensures of_high
-    ∙ both_marked D (law s) ds s.proper c.args.edge c.args.n c.requires (sym c.in-None.ensures) c.half-low.result c.half-high.result
-    (half_of s false c.args.edge c.unmarked-upright.result c.half-low.result c.half-low.ensures.half c.unmarked-upright.ensures)
-    (half_of s true c.args.edge c.unmarked-upright.result c.half-high.result c.half-high.ensures.half c.unmarked-upright.ensures)
+    ∙ both_marked D (law s) ds s.proper c.args.edge c.args.n c.requires (sym c.in-None.ensures) c.unmarked-upright.result c.unmarked-upright.ensures c.halves.result.0 c.halves.result.1
+    c.halves.ensures.low c.halves.ensures.high

@@ -1,8 +1,6 @@
-use Rattle.std.proofs.Common.{List, length, Option, sym, subst}
+use Rattle.std.proofs.Common.{length, sym, subst}
 use Rattle.diagram.specs.Records.{store_of}
 use Rattle.diagram.proofs.Made.{shallow_met}
-use Rattle.cache.specs.declared.entries.Entry.{Entry}
-use Rattle.cache.specs.Tables.{Stands}
 use Rattle.engine.specs.Laws.{HeldWell}
 use Rattle.engine.proofs.Remembered.{nothing_stands}
 use Rattle.engine.proofs.states.State.cut.Goals as goal
@@ -17,5 +15,5 @@ invariant_of-self c =
       low = shallow_met (store_of c.cut.new.self) w.shallow;
       few = w.few;
       wide = s.wide;
-      right = λ k e h. absurd (nothing_stands (length s.table) k e (subst (λ (ps : List (Option Entry)). Stands ps k e) c.requires.empty h));
+      right = λ k e h. absurd (nothing_stands (length s.table) s.table c.requires.empty k e h);
     }

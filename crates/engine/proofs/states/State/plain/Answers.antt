@@ -7,14 +7,12 @@ use Rattle.engine.proofs.Halfwise.{joint_of}
 use Rattle.engine.proofs.Plainly.{plain_fit, plain_means}
 use Rattle.engine.proofs.states.State.plain.Goals as goal
 
-pub returns-then-negates : goal.returns-then-negates
-returns-then-negates c =
+pub returns-then-negates-clause-key : goal.returns-then-negates-clause-key
+returns-then-negates-clause-key c =
     let s = c.args.self.now in
-    let D = s.profile.meaning in
-    let ds = s.diamonds in
-    let is = sym c.of.ensures in
-    record {
-      key = subst (λ (r : Plain). KeyOfArity D ds r.key c.args.n) is (plain_fit D ds (state_well s) c.args.key c.args.n c.requires);
-      mark = λ _. sym c.if-negates.ensures;
-      rule = subst (λ (r : Plain). joint_of ds c.args.key ≡ sign r.negated (joint_of ds r.key)) is (plain_means D ds (state_well s) c.args.key c.args.n c.requires);
-    }
+    subst (λ (r : Plain). KeyOfArity s.profile.meaning s.diamonds r.key c.args.n) (sym c.of.ensures) (plain_fit s.profile.meaning s.diamonds (state_well s) c.args.key c.args.n c.requires)
+
+pub returns-then-negates-clause-rule : goal.returns-then-negates-clause-rule
+returns-then-negates-clause-rule c =
+    let s = c.args.self.now in
+    subst (λ (r : Plain). joint_of s.diamonds c.args.key ≡ sign r.negated (joint_of s.diamonds r.key)) (sym c.of.ensures) (plain_means s.profile.meaning s.diamonds (state_well s) c.args.key c.args.n c.requires)

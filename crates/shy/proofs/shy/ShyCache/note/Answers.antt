@@ -1,17 +1,14 @@
-use Rattle.std.proofs.Common.{◌≡◌, ℕ, eqb, set, Some, refl, subst}
-use Rattle.cache.specs.Placing.{entry, given_at, put_noted}
-use Rattle.shy.specs.Shy.{key_lengths}
+use Rattle.std.proofs.Common.{eqb}
+use Rattle.cache.specs.Placing.{given_at, remainder_within, put_noted}
+use Rattle.shy.specs.Shy.{key_lengths, shy_place}
 use Rattle.shy.specs.Hidden.{hidden_noted}
 use Rattle.shy.proofs.shy.ShyCache.note.Goals as goal
 
-pub returns : goal.returns
-returns c =
+pub returns-clause-noted : goal.returns-clause-noted
+returns-clause-noted c =
     let key = c.args.key in
-    let edge = c.args.edge in
     let before = c.args.table.now in
     let after = c.note_at.new.self in
-    let was = c.args.self.now.shut in
-    let put = subst (λ (place : ℕ). after ≡ set before place (Some (entry key edge))) c.shy_place-place.ensures c.note_at.ensures in
-    let open-noted = put_noted key_lengths before after key edge put in
-    let noted = hidden_noted before after (given_at key_lengths before) (given_at key_lengths after) key edge open-noted was (eqb key.connective c.args.self.now.closer) in
-    record { noted = noted; places = refl }
+    let cache = c.args.self.now in
+    let put = put_noted shy_place (λ n k. remainder_within n (key_lengths k)) before after key c.args.edge (rw c.shy_place-place.ensures at c.note_at.ensures) in
+    rw c.shut_after-self.ensures (hidden_noted before after (given_at shy_place before) (given_at shy_place after) key c.args.edge put cache.shut (eqb key.connective cache.closer))
