@@ -33,8 +33,4 @@ impl Cache for Blank {
     }
 
     fn note(&mut self, _table: &mut Table, _key: Key, _edge: Edge) {}
-
-    fn forget(&mut self, table: &mut Table) {
-        table.clear();
-    }
 }

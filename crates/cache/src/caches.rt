@@ -40,11 +40,14 @@ pub trait Cache {
         ensures noted { Noted KEEPS table.old table.new (held self.old table.old) (held self.new table.new) key edge }
         ensures places { wants self.new ≡ wants self.old };
 
-    // Empties the table and the map; no body here, since what else holds the map is the cache's own.
+    // Empties the table, and with it the map, since what the map gives stands in the table. A cache with more to forget has a body of its own.
     fn forget(&mut self, table: &mut Table)
         ensures empty { table.new ≡ replicate (length table.old) None }
         ensures none { (k : Key) → held self.new table.new k ≡ None }
-        ensures places { wants self.new ≡ wants self.old };
+        ensures places { wants self.new ≡ wants self.old }
+    {
+        table.clear();
+    }
 
     // What the cache gives stands in the table.
     ghost honest: { (c : Self) (t : Table) (k : Key) (e : Edge) → held c t k ≡ Some e → Stands t k e };

@@ -49,8 +49,4 @@ impl Cache for Slot {
         let place = slot_place(table, key);
         table.note_at(place, key, edge);
     }
-
-    fn forget(&mut self, table: &mut Table) {
-        table.clear();
-    }
 }

@@ -46,7 +46,7 @@ constant_at true n (terminal b) = Some (flips n b)
 constant_at true n (diamond k) = None
 constant_at false n t = None
 
--- a half is seen to be constant where its word is of u alone and its target is a terminal
+-- the value that an edge is seen to have everywhere: there is one where its word is of u alone and its target is a terminal
 abbrev pub constant_value : Edge → Option Bool
 constant_value e = constant_at (all_u e.word) e.negated e.target
 

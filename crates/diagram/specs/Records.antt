@@ -115,7 +115,7 @@ same_record a b =
 abbrev pub other_mark : EdgeRecord → EdgeRecord
 other_mark e = record { negated = not e.negated; word = e.word; target = e.target }
 
--- a half is constant where its word is 0, so that every letter is u, and its target is a terminal
+-- the value that a program's edge is seen to have everywhere: there is one where its word is 0, so that every letter is u, and its target is a terminal
 abbrev pub constant_to : Bool → Bool → TargetRecord → Option Bool
 constant_to true n Zero = Some (flips n false)
 constant_to true n One = Some (flips n true)

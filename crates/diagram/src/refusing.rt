@@ -43,7 +43,7 @@ impl Refusal {
         }
     }
 
-    // Whether the two refusals are the same: what `==` of refusals holds of.
+    // Whether the two refusals are the same: `==`, promised to be the test in specs/ and to hold of nothing else.
     pub fn same(self, other: Refusal) -> bool
         ensures by_parts { result ≡ same_refusal self other }
         ensures same { IsTrue result ↔ (self ≡ other) }

@@ -4,7 +4,7 @@ use Rattle.diagram.specs.declared.meanings.Meaning.{Meaning}
 use Rattle.diagram.specs.Builtin.{only_u, no_answers}
 use Rattle.diagram.specs.Dialects.{lawful}
 
--- u alone, with the code c, negating where n holds; no letter fits at any look
+-- u alone, with the code c, negating where n holds; no answer at any look
 abbrev pub u_alone : ℕ → Bool → Meaning
 u_alone c n = record { code = c; negates = n; letters = only_u; answers = no_answers }
 

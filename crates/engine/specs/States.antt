@@ -1,4 +1,4 @@
--- What an engine's own functions ask of edges and diamonds.
+-- What an engine's own functions ask and promise of edges and diamonds.
 use Rattle.std.specs.Prelude.{◌≡◌, ℕ, ◌-◌, ◌≤◌, Bool, true, false, not, List, length, take, IfOk, None, Result}
 use Rattle.diagram.specs.declared.edges.Edge.{Edge}
 use Rattle.diagram.specs.declared.edges.Diamond.{Diamond}

@@ -33,9 +33,8 @@ impl State {
         ensures { result ≡ (if accepted_in self.now.profile.meaning self.now.diamonds a && accepted_in self.now.profile.meaning self.now.diamonds b then (if nat_eq (arity_in self.now.diamonds a) (arity_in self.now.diamonds b) then Ok (arity_in self.now.diamonds a) else Err AritiesDiffer) else Err NotAccepted) }
     {
         let n = self.checked(a)?;
-        if n != self.checked(b)? {
-            return Err(Refusal::AritiesDiffer);
-        }
-        Ok(n)
+        (n == self.checked(b)?)
+            .then_some(n)
+            .ok_or(Refusal::AritiesDiffer)
     }
 }

@@ -1,7 +1,7 @@
 // The answer of a combination.
 use diagram::edges::Edge;
 
-// The edge, which is there either way, and whether the cache found it.
+// The edge, and whether the cache found it; the edge is there in both cases.
 #[derive(Clone, Copy)]
 pub struct Combined {
     pub edge: Edge,

@@ -20,6 +20,7 @@ fn note(numbers: &mut HashMap<Diamond, u16>, diamond: Diamond, k: u16)
     match numbers.get_mut(&diamond) {
         Some(number) => *number = k,
         None => {
+            // named, since what may want memory is not unwrapped unseen
             let added: Result<_, _> = numbers.insert(diamond, k);
             added.unwrap();
         }
