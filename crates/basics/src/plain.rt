@@ -55,7 +55,7 @@ fn bits(p: bool, q: bool, r: bool) -> u8
 }
 
 // A combination of unmarked edges, and whether the one that was asked for is its negation.
-#[derive(Clone, Copy)]
+#[derive(Clone, Copy, PartialEq, Eq)]
 pub struct Plain {
     pub key: Key,
     pub negated: bool,

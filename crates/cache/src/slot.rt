@@ -1,5 +1,5 @@
 // The cache in which each key has one place; keys that share a place take it from each other.
-ghost use Rattle.std.specs.Prelude.{◌≡◌, true, length};
+ghost use Rattle.std.specs.Prelude.{◌≡◌, true, length, Some, slice_set};
 ghost use Rattle.cache.specs.Slots.{slot_place, slot_held};
 ghost use Rattle.cache.specs.Placing.{given_stands};
 ghost use Rattle.std.proofs.Common.{rules};
@@ -18,6 +18,14 @@ fn slot_place(table: &Table, key: Key) -> usize
             + key.left.target.number() as usize
             + key.right.target.number() as usize,
     )
+}
+
+// Puts the entry of a key and an edge at the key's place.
+fn put_at_place(table: &mut Table, key: Key, edge: Edge)
+    ensures { table.new ≡ slice_set table.old (slot_place (length table.old) key) (Some (record { key = key; edge = edge })) }
+{
+    let place = slot_place(table, key);
+    table.note_at(place, key, edge);
 }
 
 // Finds a key at its place, and notes it there over whatever stood there.
@@ -46,7 +54,6 @@ impl Cache for Slot {
     }
 
     fn note(&mut self, table: &mut Table, key: Key, edge: Edge) {
-        let place = slot_place(table, key);
-        table.note_at(place, key, edge);
+        put_at_place(table, key, edge);
     }
 }

@@ -22,8 +22,8 @@ pub mod Spelling
 pub mod Bridge
 pub mod Eights
 pub mod Recorded
+pub mod Compared
 pub mod Placed
-pub mod Octal
 pub mod Spelt
 pub mod Made
 pub mod Recording

@@ -16,10 +16,11 @@ pub struct Word {
 }
 
 // A mark, a word and a target. Any value can be offered; which are accepted, an engine says.
+// The word stands first: fields lie in memory in the order of the source, and so an edge takes 24 bytes and not 32.
 #[derive(Clone, Copy, PartialEq, Eq, Hash)]
 pub struct Edge {
-    pub negated: bool,
     pub word: Word,
+    pub negated: bool,
     pub target: Target,
 }
 

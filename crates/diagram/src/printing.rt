@@ -1,6 +1,8 @@
 // Edges and refusals as text.
-ghost use Rattle.std.specs.Prelude.{◌≡◌, Some};
-ghost use Rattle.diagram.specs.Printed.{mark_text, word_text, target_text, edge_text, refusal_text};
+ghost use Rattle.std.specs.Prelude.{◌≡◌, ◌≤◌, true, Some};
+ghost use Rattle.std.specs.Fmt.{WritesOnOk};
+ghost use Rattle.diagram.specs.Words.{letters_of, spells};
+ghost use Rattle.diagram.specs.Printed.{digits_text, mark_text, word_text, target_text, edge_text, refusal_text};
 
 use crate::edges::{Edge, Target, Word};
 use crate::refusals::Refusal;
@@ -19,6 +21,21 @@ impl fmt::Display for Target {
     }
 }
 
+// Writes the digits of a word one by one, the topmost letter first: a writer that has no room for all of them has taken those that it had room for.
+fn write_digits<W: fmt::Write>(f: &mut fmt::Formatter<W>, word: Word) -> fmt::Result
+    requires short { word.length ≤ 20 }
+    requires letters { spells word.length word.digits ≡ true }
+    ensures { WritesOnOk W.Write.write_str_gives f.old result (digits_text (letters_of word.length word.digits)) f.new }
+{
+    match word.peel() {
+        Some((letter, below)) => {
+            f.write(u64::from(letter))?;
+            write_digits(f, below)
+        }
+        None => Ok(()),
+    }
+}
+
 // The digits of a word, a point if it has none, or `?` if it is no word of at most 20 letters.
 impl fmt::Display for Word {
     ghost output = { λ w. Some (word_text w) };
@@ -30,7 +47,7 @@ impl fmt::Display for Word {
         if self.length == 0 {
             return f.write_str(".");
         }
-        write!(f, "{:0width$o}", self.digits, width = self.length as usize)
+        write_digits(f, *self)
     }
 }
 

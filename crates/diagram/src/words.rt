@@ -1,4 +1,4 @@
-// Words: the only octal arithmetic there is, printing aside. A word is a numeral of `length` octal digits, the topmost letter first.
+// Words: the only octal arithmetic there is. A word is a numeral of `length` octal digits, the topmost letter first.
 ghost use Rattle.std.specs.Prelude.{◌≡◌, ◌^◌, ◌<◌, ◌≤◌, ◌&&◌, ◌∷◌, IfSome, nat_le};
 ghost use Rattle.diagram.specs.Words.{letters_of, spells, peeled, pushed};
 

@@ -1,5 +1,5 @@
 // A cache that may hide what it noted.
-ghost use Rattle.std.specs.Prelude.{◌≡◌, false, ◌||◌, length, ◌==◌};
+ghost use Rattle.std.specs.Prelude.{◌≡◌, false, ◌||◌, length, Some, slice_set, ◌==◌};
 ghost use Rattle.shy.specs.Shy.{shy_place, shy_held};
 ghost use Rattle.cache.specs.Placing.{given_at, given_stands};
 ghost use Rattle.shy.specs.Hidden.{shown};
@@ -25,6 +25,14 @@ fn shy_place(table: &Table, key: Key) -> usize
     table.place_of(
         key.connective as usize + key.left.word.length as usize + key.right.word.length as usize,
     )
+}
+
+// Puts the entry of a key and an edge at the key's place.
+fn put_at_place(table: &mut Table, key: Key, edge: Edge)
+    ensures { table.new ≡ slice_set table.old (shy_place (length table.old) key) (Some (record { key = key; edge = edge })) }
+{
+    let place = shy_place(table, key);
+    table.note_at(place, key, edge);
 }
 
 impl Shy {
@@ -73,8 +81,7 @@ impl Cache for Shy {
 
     fn note(&mut self, table: &mut Table, key: Key, edge: Edge) {
         self.shut = self.shut_after(key.connective);
-        let place = shy_place(table, key);
-        table.note_at(place, key, edge);
+        put_at_place(table, key, edge);
     }
 
     fn forget(&mut self, table: &mut Table) {

@@ -1,43 +1,23 @@
 // Adding diamonds, and taking them back.
-ghost use Rattle.std.specs.Prelude.{◌≡◌, ◌+◌, ◌<◌, ◌≤◌, leb, List, [], ◌∷◌, ◌++◌, length, take, if◌then◌else◌, Some, None};
-ghost use Rattle.std.specs.HashMap.{hash_map_len, spare};
-ghost use Rattle.diagram.specs.declared.edges.Diamond.{Diamond};
-ghost use Rattle.unique.specs.Index.{IsNumbering};
+ghost use Rattle.std.specs.Prelude.{◌≡◌, ◌-◌, leb, [], ◌∷◌, ◌++◌, length, take, if◌then◌else◌, Some, None, nat_le, nat_lt};
 
+use crate::chains::{chain, unchain};
 use crate::finding::ROOM;
 use crate::tables::UniqueTable;
 use diagram::edges::Diamond;
-use std::collections::HashMap;
 
-// Notes the number of a diamond, over that of an equal one, if there is one; in a map with room for 1,024 it wants no memory.
-fn note(numbers: &mut HashMap<Diamond, u16>, diamond: Diamond, k: u16)
-    requires few { hash_map_len numbers.old < 1024 }
-    requires spare { 1024 ≤ hash_map_len numbers.old + spare numbers.old }
-    ensures numbering { (ds : List Diamond) → length ds ≡ k → IsNumbering numbers.old ds → IsNumbering numbers.new (ds ++ (diamond ∷ [])) }
-    ensures spare { 1024 ≤ hash_map_len numbers.new + spare numbers.new }
+// Whether so many diamonds are as many as a table holds.
+fn is_full(count: usize) -> bool
+    ensures { result ≡ nat_le 1024 count }
 {
-    // `insert` alone could use up room for a diamond that is there.
-    match numbers.get_mut(&diamond) {
-        Some(number) => *number = k,
-        None => {
-            // named, since what may want memory is not unwrapped unseen
-            let added: Result<_, _> = numbers.insert(diamond, k);
-            added.unwrap();
-        }
-    }
+    count >= ROOM
 }
 
-// Numbers the diamonds anew, in the memory that the map has.
-fn renumber(numbers: &mut HashMap<Diamond, u16>, diamonds: &[Diamond])
-    requires few { length diamonds.now ≤ 1024 }
-    requires spare { 1024 ≤ hash_map_len numbers.old + spare numbers.old }
-    ensures numbering { IsNumbering numbers.new diamonds.now }
-    ensures spare { 1024 ≤ hash_map_len numbers.new + spare numbers.new }
+// Whether there are more than so many diamonds.
+fn is_over(count: usize, limit: usize) -> bool
+    ensures { result ≡ nat_lt limit count }
 {
-    numbers.clear();
-    for (k, &diamond) in diamonds.iter().enumerate() {
-        note(numbers, diamond, k as u16);
-    }
+    count > limit
 }
 
 impl UniqueTable {
@@ -47,21 +27,29 @@ impl UniqueTable {
         ensures diamonds { self.new ≡ (if leb 1024 (length self.old) then self.old else self.old ++ (diamond ∷ [])) }
     {
         let k = self.diamonds.len();
-        if k >= ROOM {
+        if is_full(k) {
             return None;
         }
-        note(&mut self.numbers, diamond, k as u16);
+        chain(&mut self.heads, &mut self.links, diamond, k as u16);
         self.diamonds.push_reserved(diamond);
         Some(k)
+    }
+
+    // Takes the newest diamond back, if there is one.
+    fn pop(&mut self)
+        ensures { self.new ≡ take (length self.old - 1) self.old }
+    {
+        if let Some(diamond) = self.diamonds.pop() {
+            unchain(&mut self.heads, &mut self.links, diamond);
+        }
     }
 
     // Takes back all diamonds but the first `count`.
     pub fn cut(&mut self, count: usize)
         ensures { self.new ≡ take count self.old }
     {
-        if count < self.diamonds.len() {
-            self.diamonds.truncate(count);
-            renumber(&mut self.numbers, &self.diamonds);
+        while is_over(self.len(), count) {
+            self.pop();
         }
     }
 }

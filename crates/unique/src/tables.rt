@@ -1,13 +1,15 @@
 // The unique table.
 use diagram::edges::Diamond;
-use std::collections::HashMap;
 use std::marker::Model;
 
-// The diamonds of an engine, diamond k at place k, and the number of each; of several equal ones that of the last.
+// The diamonds of an engine, with an index to look them up by: each diamond has a bucket, and those of one bucket are chained, the newest first.
 #[derive(Drop)]
 pub struct UniqueTable {
     pub(crate) diamonds: Vec<Diamond>,
-    pub(crate) numbers: HashMap<Diamond, u16>,
+    // for each bucket, its newest diamond
+    pub(crate) heads: Vec<Option<u16>>,
+    // for each diamond, the newest one before it in the same bucket
+    pub(crate) links: Vec<Option<u16>>,
 }
 
 // Clauses see the diamonds.

@@ -4,4 +4,4 @@ use Rattle.cache.proofs.slot.SlotCache.note.Goals as goal
 
 pub returns-clause-noted : goal.returns-clause-noted
 returns-clause-noted c =
-    put_noted slot_place (λ n k. remainder_within n (key_number k)) c.args.table.now c.note_at.new.self c.args.key c.args.edge (rw c.slot_place-place.ensures at c.note_at.ensures)
+    put_noted slot_place (λ n k. remainder_within n (key_number k)) c.args.table.now c.put_at_place.new.table c.args.key c.args.edge c.put_at_place.ensures

@@ -8,7 +8,7 @@ pub returns-clause-noted : goal.returns-clause-noted
 returns-clause-noted c =
     let key = c.args.key in
     let before = c.args.table.now in
-    let after = c.note_at.new.self in
+    let after = c.put_at_place.new.table in
     let cache = c.args.self.now in
-    let put = put_noted shy_place (λ n k. remainder_within n (key_lengths k)) before after key c.args.edge (rw c.shy_place-place.ensures at c.note_at.ensures) in
+    let put = put_noted shy_place (λ n k. remainder_within n (key_lengths k)) before after key c.args.edge c.put_at_place.ensures in
     rw c.shut_after-self.ensures (hidden_noted before after (given_at shy_place before) (given_at shy_place after) key c.args.edge put cache.shut (eqb key.connective cache.closer))
